@@ -1,4 +1,4 @@
--- No good line but the last is `%%EOF`, so no proper prefix of a document is a document.
+-- No good line except the last is `%%EOF`, so no proper prefix of a document is a document.
 use Rattle.std.proofs.Common.{◌≡◌, ℕ, List, [], ◌∷◌, ◌++◌, refl, sym, ◌∙◌, ap, arith, codes, ◌==◌, if◌then◌else◌}
 use Rattle.std.proofs.lemmas.Bool.{ne_eqb}
 use Rattle.glyph_paths.specs.Names.{glyphs_in_order}
@@ -16,7 +16,7 @@ use Rattle.ps_read.proofs.Through.{document_way, lines_on}
 use Rattle.ps_read.specs.Lines as line
 use Rattle.eng_lines.proofs.Words.{one_cut, head_of}
 
--- how far on a place is: in the prolog with what is left of its fixed text, behind it, or at the end
+-- how far a state is: in the prolog, with what is left of its fixed text; after the prolog; or at the end
 data Stage : Type 0 where
   begun : Stage
   titled : Stage
@@ -40,7 +40,7 @@ abbrev behind_prolog : List ℕ → Stage
 behind_prolog [] = late
 behind_prolog (b ∷ rest) = framed (b ∷ rest)
 
--- the stage behind a line, by its text alone
+-- the stage after a line, by its text alone
 abbrev on : Stage → List ℕ → Stage
 on begun text = titled
 on titled text = boxed procedures

@@ -1,4 +1,4 @@
--- The text of a line, each part in front of what follows it, and that its numbers may stand on a page.
+-- The text of a line, with each part before what follows it, and that its numbers may be on a page.
 use Rattle.std.proofs.Common.{◌≡◌, ℕ, ℤ, pos, ◌≤◌, ◌^◌, true, ◌+◌, ◌/◌, ◌%◌, List, [], ◌∷◌, ◌++◌, refl, ◌∙◌, ap, arith}
 use Rattle.std.proofs.Common.{codes, decimal}
 use Rattle.std.proofs.lemmas.Fmt.{decimal_digit}

@@ -1,4 +1,4 @@
--- How lines begin, and that none has an LF within.
+-- How lines begin, and that none contains an LF.
 use Rattle.std.proofs.lemmas.Bool.{ne_eqb}
 use Rattle.std.proofs.lemmas.List.Folds.{list_all-append}
 use Rattle.std.proofs.Common.{◌≡◌, ◌≢◌, ℕ, ℤ, pos, negsuc, zero, suc, ◌/◌, ◌%◌, ◌≤◌, Bool, true, false, ◌==◌}
@@ -37,7 +37,7 @@ by_test : (P : List ℕ → Type 0) (t : Bool) (x y : List ℕ) → P x → P y 
 by_test P true x y h k = h
 by_test P false x y h k = k
 
--- what one more digit in front keeps holds of a number
+-- what one more leading digit keeps holds for a number
 digits_keep : (P : List ℕ → Type 0)
     → ((d : ℕ) (ds : List ℕ) → IsDigit d → P ds → P (d ∷ ds)) → (k n : ℕ) (ds : List ℕ) → P ds
     → P (digits_onto k 10 false n ds)
@@ -94,7 +94,7 @@ same_start zero xs ys = true
 same_start (suc n) (x ∷ xs) (y ∷ ys) = if x == y then same_start n xs ys else false
 same_start (suc n) xs ys = true
 
--- no LF within
+-- no LF inside
 abbrev is_whole : List ℕ → Bool
 is_whole s = list_all (λ b. not (b == 10)) s
 
@@ -156,7 +156,7 @@ count_whole : (k : ℕ) → is_whole (count_line k) ≡ true
 unfolding count_line
 count_whole k = decimal_whole k
 
--- no good line has an LF within
+-- no good line contains an LF
 pub may_lack : (p : ReaderState) (l : Line) → MayCome p l → Lacks 10 (line_text l)
 unfolding box_line box_start page_line page_start page_end scaling heading_line tune_line title_line system_line
     join_line staff_line rules_line
@@ -170,6 +170,6 @@ may_lack (ReaderState.Items p) (line.Title x y size words) m =
 may_lack (ReaderState.Marks o s) (line.Mark y k) m = lacks (mark_line y k) (rw m.0 (mark_whole s.y k m.1))
 may_lack p l m = lacks (line_text l) (grind (arith, list_all-append, decimal_whole, percent_whole, numbers_whole))
 
--- no text with a line's end is empty
+-- no text with a line end is empty
 pub no_line : (text more : List ℕ) → [] ≡ text ++ 10 ∷ more → ⊥
 no_line text more e = let n = ap length e in let k = length-append text (10 ∷ more) in omega (arith, n, k)

@@ -1,4 +1,4 @@
--- A line that may come leads on, and where none of those in question may, that is told.
+-- A line that may come leads on; if none of those in question may come, the step says so.
 use Rattle.std.proofs.Common.{◌≡◌, ℕ, ℤ, ◌+◌, ◌<◌, ◌≤◌, ◌^◌, false, List, [], ◌∷◌, ◌++◌, length, Option, Some, None}
 use Rattle.std.proofs.Common.{is_some, IsSome, refl, sym, ◌∙◌, ap, arith, codes, decimal, MatchOption, Result, Ok, Err}
 use Rattle.std.proofs.Common.{IfOk}
@@ -33,7 +33,7 @@ use Rattle.ps_read.proofs.Heads.{mark_start, join_start, no_line}
 use Rattle.ps_read.specs.Lines as line
 use Rattle.eng_lines.proofs.Words.{head_of, one_field, after_prefix}
 
--- two numbers behind a prefix, or one, are told by the text
+-- two numbers after a prefix, or one, are determined by the text
 pair_alone : (p : List ℕ) (a b c d : ℕ)
     → a < 2 ^ 32 → b < 2 ^ 32 → c < 2 ^ 32 → d < 2 ^ 32
     → p ++ decimal a ++ 32 ∷ decimal b ≡ p ++ decimal c ++ 32 ∷ decimal d
@@ -275,7 +275,7 @@ on_mark o s raw m r e g one is =
     only (line.Mark y k) u q h = let same = one k h.1 (q ∙ ap (λ y. mark_line y k) h.0) in grind (arith, same, is)
     only l u q h = let start = mark_start s.y m in let same = ap head_of (sym e ∙ q) in grind (arith, start, same, h)
 
--- what is told of the mark of a line, from its text behind the mark to that before it
+-- what is known of the mark of a line, with the sides of the equation of its text swapped
 pub mark_read : (y : ℤ) (raw : List ℕ) (r : Result (Option PageMark) Memory)
     → IfOk r (λ o.
     MatchOption o ((m : PageMark) → IsPageMark y m → mark_line y m ≡ raw → ⊥)

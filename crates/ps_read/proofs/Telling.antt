@@ -1,4 +1,4 @@
--- What the lines so far have told, and that a line that may come adds its text to it.
+-- What the lines so far have said, and that a line that may come adds its text to it.
 use Rattle.std.proofs.Common.{◌≡◌, ℕ, ℤ, pos, ◌+◌, ◌<◌, ◌^◌, ◌+ℤ◌, List, [], ◌∷◌, ◌++◌, ◌⊎◌, inl, inr, length, Option}
 use Rattle.std.proofs.Common.{Some, None, IsSome, refl, sym, ◌∙◌, ap, subst, arith, codes, All, lit<, length-append}
 use Rattle.std.proofs.Common.{true≢false}
@@ -32,7 +32,7 @@ use Rattle.ps_read.specs.declared.state.OpenSystem.{OpenSystem}
 use Rattle.ps_read.specs.declared.state.ReaderState.{ReaderState}
 use Rattle.ps_read.specs.Lines as line
 
--- the text of whole pages, of a page whose items are being listed, and of a system whose staves are
+-- the text of whole pages, of a page whose items are being read, and of a system whose staves are being read
 abbrev pub front : Sheet → List ℕ
 front s = prolog s.frame ++ numbered document_page 1 s.pages
 
@@ -71,13 +71,13 @@ record IsOpenSystem (o : OpenSystem) : Type 0 where
   joined : IsJoinedBy o.join o.staves
   good : All IsStaff o.staves
 
--- a staff whose marks are being listed
+-- a staff whose marks are being read
 record IsOpenStaff (o : OpenSystem) (s : Staff) : Type 0 where
   system : IsOpenSystem o
   staff : IsStaff s
   under : IsUnderTop o.join o.staves s.y
 
--- the text tells the place
+-- the text spells the state
 abbrev Tells : ReaderState → List ℕ → Type 0
 Tells ReaderState.Begun t = t ≡ []
 Tells ReaderState.Titled t = t ≡ first_text
@@ -120,7 +120,7 @@ last_base_push : (t : Staff) (ss : List Staff) (s : Staff) → last_base t (ss +
 last_base_push t [] s = refl
 last_base_push t (u ∷ ss) s = last_base_push u ss s
 
--- the line between the staves is the right one
+-- the line that joins the staves is the right one
 joins : (j : Option Joined) (ss : List Staff) (s : Staff)
     → IsJoinedBy j ss → MayEnd j ss s.y → join_text (ss ++ s ∷ []) ≡ joining j
 joins None ss s h m = ap (λ ss. join_text (ss ++ s ∷ [])) h
@@ -177,7 +177,7 @@ ended_good o s h m =
     })
     (order_push o.page.items i y.page.order (inr (λ i. grind arith)))
 
--- a line put behind a text
+-- a line added after a text
 line_taken : (t l rest more x : List ℕ) → rest ≡ l ++ 10 ∷ more → t ++ rest ≡ x → (t ++ (l ++ 10 ∷ [])) ++ more ≡ x
 line_taken t l rest more x e h = rw (← h, e) (simp append_assoc)
 
@@ -338,7 +338,7 @@ step_tells (ReaderState.Counted s) (line.Fixed text) t m h =
     record { good = h.1; spelled = rw (h.0, m) (simp append_assoc) }
 step_tells p l t m h = absurd m
 
--- the lines that lead to a place tell it
+-- the lines that lead to a state spell it
 leads_tell : (p q : ReaderState) (ls : List Line) (t : List ℕ)
     → Leads p ls q → Tells p t → Tells q (t ++ lines_then ls [])
 leads_tell p q [] t h k = subst (λ p. Tells p (t ++ [])) h (subst (λ t. Tells p t) (sym (append-nil t)) k)
@@ -348,7 +348,7 @@ leads_tell p q (l ∷ ls) t h k =
     ∙ ap (λ v. t ++ v) (append_assoc (line_text l) (10 ∷ []) (lines_then ls [])))
     (leads_tell (state_after p l) q ls (t ++ (line_text l ++ 10 ∷ [])) h.1 (step_tells p l t h.0 k))
 
--- good lines up to the end are of a document
+-- good lines up to the end spell a document
 pub lines_spell : (s : Sheet) (text : List ℕ) → IsGoodThroughout text s → SpellsSheet s text
 lines_spell s text h =
     let told = leads_tell ReaderState.Begun (ReaderState.Ended s) h.0 [] h.2 refl in

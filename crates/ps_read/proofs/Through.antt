@@ -30,7 +30,7 @@ use Rattle.ps_read.specs.declared.state.ReaderState.{ReaderState}
 use Rattle.ps_read.proofs.Telling.{first_told}
 use Rattle.ps_read.specs.Lines as line
 
--- good lines lead from one place to another, and this is their text
+-- good lines lead from one state to another, and this is their text
 record Way (p q : ReaderState) (t : List ℕ) : Type 0 where
   lines : List Line
   text : t ≡ lines_then lines []
@@ -114,7 +114,7 @@ drop_line (x ∷ t) r =
 first_line : (t r : List ℕ) → Lacks 10 t → IsFirstLine t (t ++ 10 ∷ r)
 first_line t r h = record { whole = h; first = ap (λ r. t ++ 10 ∷ r) (sym (drop_line t r)) }
 
--- at a place that says what is left of a fixed text its lines come
+-- in a state that holds what is left of a fixed text, the lines of that text come
 fixed_lines : (at : List ℕ → ReaderState)
     → ((t r : List ℕ) → Lacks 10 t → Way (at (t ++ 10 ∷ r)) (at r) (t ++ 10 ∷ []))
     → (ts : List (List ℕ)) → AllLack ts
@@ -189,7 +189,7 @@ marks_way o y w done (m ∷ ms) h =
     (marks_way o y w (done ++ m ∷ []) ms (All-tail (IsPageMark y) m ms h)))
     (ap (λ ms. ReaderState.Marks o (staff_of y w ms)) (append_assoc done (m ∷ []) ms)) refl
 
--- from where the number of a staff may come to the end of its marks
+-- from the state in which the number of a staff may come to the end of its marks
 staff_way : (p : ReaderState) (o : OpenSystem) (s : Staff) (k : ℕ)
     → Way p (ReaderState.Staff o) (staff_line k ++ 10 ∷ []) → IsStaff s → IsUnderTop o.join o.staves s.y
     → Way p (ReaderState.Marks o s) (staff_text k s)
@@ -278,7 +278,7 @@ system_way p a b (s ∷ u ∷ us) h =
       more.3,
     )
 
--- lines other than titles come at this place as at the page
+-- lines other than titles may come in this state as on the page
 abbrev IsLike : OpenPage → ReaderState → Type 0
 IsLike p q =
     (l : Line) → IsItemLine l → MayCome (ReaderState.Items p) l

@@ -14,7 +14,7 @@ use Rattle.ps_read.proofs.Heads.{may_lack, no_line}
 use Rattle.ps_read.proofs.Telling.{lines_spell}
 use Rattle.ps_read.proofs.Through.{document_way, lines_both, leads_both}
 
--- good lines that pass through a text are at least as many as others that begin it
+-- good lines that cover a text are at least as many as others that begin it
 as_many : (p q x y : ReaderState) (ls ms : List Line) (rest : List ℕ)
     → Leads p ls q → Leads x ms y → lines_then ls rest ≡ lines_then ms [] → length ls ≤ length ms
 as_many p q x y [] ms rest h k e = omega arith
@@ -24,14 +24,14 @@ as_many p q x y (l ∷ ls) (m ∷ ms) rest h k e =
     (may_lack x m k.0) e in
     let n = as_many (state_after p l) q (state_after x m) y ls ms rest h.1 k.1 c.1 in omega (arith, n)
 
--- the ways of good lines from a place on through what is left
+-- the ways of good lines from a state on through what is left
 abbrev pub WaysOn : List ℕ → ℕ → ReaderState → List ℕ → Type 0
 WaysOn text count p rest =
     (ms : List Line) (r : List ℕ) (q : ReaderState)
     → text ≡ lines_then ms r → Leads ReaderState.Begun ms q → count ≤ length ms
     → (ks : List Line) × (rest ≡ lines_then ks r) × Leads p ks q × (length ms ≡ count + length ks)
 
--- the lines so far lead to the place, and each way of good lines through so many lines passes there
+-- the lines so far lead to the state, and each way of good lines through this many lines passes there
 pub record IsReading (text : List ℕ) (p : ReaderState) (rest : List ℕ) (number : ℕ) : Type 0 where
   pub lines : List Line
   pub so_far : text ≡ lines_then lines rest
@@ -39,7 +39,7 @@ pub record IsReading (text : List ℕ) (p : ReaderState) (rest : List ℕ) (numb
   pub counted : number ≡ length lines + 1
   pub ways : WaysOn text (length lines) p rest
 
--- behind one more line
+-- after one more line
 ways_more : (text : List ℕ) (count : ℕ) (p t : ReaderState) (rest raw behind : List ℕ)
     → WaysOn text count p rest → rest ≡ raw ++ 10 ∷ behind → Lacks 10 raw → IsNextOf Any p raw t
     → WaysOn text (count + 1) t behind
@@ -81,7 +81,7 @@ reading_more text p t rest raw behind number h cut lacks step =
           (ways_more text (length h.lines) p t rest raw behind h.ways cut lacks step);
     }
 
--- no good line comes next, nor is this the end
+-- no good line comes next, and this isn't the end
 pub record IsStuck (p : ReaderState) (rest : List ℕ) : Type 0 where
   pub line : (l : Line) (more : List ℕ) → rest ≡ line_text l ++ 10 ∷ more → MayCome p l → ⊥
   pub last : (s : Sheet) → rest ≡ [] → p ≡ ReaderState.Ended s → ⊥

@@ -2,10 +2,10 @@
 use Rattle.std.specs.Prelude.{◌≡◌, ℕ, List, [], ◌++◌, ◌↔◌}
 use Rattle.{ps_text.specs.{Document.SpellsSheet, declared.sheet.Sheet.Sheet}, ps_read.specs.Answers.{IsGoodThroughout}}
 
--- a sheet spells a text exactly where each line of the text is good and the last is `%%EOF`
+-- a sheet spells a text exactly when each line of the text is good and the last is `%%EOF`
 abbrev pub GoodByLines : Type 0
 GoodByLines = (text : List ℕ) (s : Sheet) → SpellsSheet s text ↔ IsGoodThroughout text s
 
--- what continues a document is none
+-- no proper continuation of a document is a document
 abbrev pub NoPrefix : Type 0
 NoPrefix = (text more : List ℕ) (s t : Sheet) → SpellsSheet s text → SpellsSheet t (text ++ more) → more ≡ []

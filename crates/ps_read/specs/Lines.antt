@@ -1,5 +1,4 @@
--- The lines of a document, without the LF that ends each: those that stand as they are,
--- and those with numbers or words in them.
+-- The lines of a document, without the LF that ends each: the fixed ones, and those with numbers or words in them.
 use Rattle.std.specs.Prelude.{◌≡◌, ℕ, ℤ, ◌+◌, List, [], ◌∷◌, ◌++◌, length, drop}
 use Rattle.{eng_lines.specs.Lines.{Lacks}, mus_units.specs.declared.glyph.Size.{Size}}
 use Rattle.ps_text.specs.Document.{rules_line, staff_line, join_line, system_line, title_line, tune_line, heading_line}
@@ -38,7 +37,7 @@ abbrev pub lines_then : List Line → List ℕ → List ℕ
 lines_then [] rest = rest
 lines_then (l ∷ ls) rest = line_text l ++ 10 ∷ lines_then ls rest
 
--- what is left of a text behind its first line
+-- what is left of a text after its first line
 abbrev pub behind_line : List ℕ → List ℕ → List ℕ
 behind_line line text = drop (length line + 1) text
 

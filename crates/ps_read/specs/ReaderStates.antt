@@ -1,4 +1,4 @@
--- Which line may come after which: the lines of a document, each judged by the lines before it alone.
+-- Which line may follow which: the lines of a document, each judged by the lines before it alone.
 use Rattle.std.specs.Prelude.{◌≡◌, ℕ, ℤ, pos, ◌+◌, ◌<◌, ◌≤◌, ◌^◌, ◌+ℤ◌, List, [], ◌∷◌, ◌++◌, length, codes, Option}
 use Rattle.std.specs.Prelude.{Some, None, IsSome, ⊤}
 use Rattle.ps_text.specs.Document.{count_line}
@@ -45,13 +45,13 @@ open_system p a b = record { page = p; a = a; b = b; join = None; staves = [] }
 abbrev pub system_ended : OpenSystem → Staff → OpenPage
 system_ended o s = with_item o.page (Item.System o.a o.b (o.staves ++ s ∷ []))
 
--- the first staff that a line joins stands 2000 below the top of that line
+-- the first staff that a line joins is 2000 below the top of that line
 abbrev pub IsUnderTop : Option Joined → List Staff → ℤ → Type 0
 IsUnderTop (Some j) [] y = (y +ℤ pos 2000) ≡ j.top
 IsUnderTop j staves y = ⊤
 
--- a system may end with a staff at y where no line joins its staves,
--- or where it has another staff and y is the foot of that line
+-- a system may end with a staff at y if no line joins its staves, or if it has another staff and y is the foot of
+-- that line
 abbrev pub MayEnd : Option Joined → List Staff → ℤ → Type 0
 MayEnd None staves y = ⊤
 MayEnd (Some j) staves y = (1 ≤ length staves) × (y ≡ j.foot)
@@ -85,12 +85,12 @@ MayCome (ReaderState.Trailer s) (Fixed text) = text ≡ count_line (length s.pag
 MayCome (ReaderState.Counted s) (Fixed text) = text ≡ codes "%%EOF"
 MayCome p l = ⊥
 
--- pages come once the prolog is told
+-- pages come after the prolog
 abbrev pub after_prolog : Frame → List ℕ → ReaderState
 after_prolog frame [] = ReaderState.Between (record { frame = frame; pages = [] })
 after_prolog frame (b ∷ rest) = ReaderState.Framed frame (b ∷ rest)
 
--- what is told once the line has come
+-- the state after the line
 abbrev pub state_after : ReaderState → Line → ReaderState
 state_after ReaderState.Begun (Fixed text) = ReaderState.Titled
 state_after ReaderState.Titled (Box wide high) = ReaderState.Boxed wide high procedures
@@ -118,7 +118,7 @@ state_after (ReaderState.Trailer s) (Fixed text) = ReaderState.Counted s
 state_after (ReaderState.Counted s) (Fixed text) = ReaderState.Ended s
 state_after p l = p
 
--- the lines are good, each after those before it, and lead from one place to another
+-- the lines are good, each after those before it, and lead from one state to another
 abbrev pub Leads : ReaderState → List Line → ReaderState → Type 0
 Leads p [] q = p ≡ q
 Leads p (l ∷ ls) q = MayCome p l × Leads (state_after p l) ls q

@@ -1,14 +1,15 @@
--- What a step of the reader says: that no good line has the text, or the place behind the one that has.
+-- What a step of the reader says: either no good line has the text, or the state is the one after the line that has
+-- it.
 use Rattle.std.specs.Prelude.{◌≡◌, ℕ, List, Option, MatchOption, ⊤}
 use Rattle.ps_read.specs.Lines.{Line, Fixed, Tune, System, Join, Mark, line_text}
 use Rattle.ps_read.specs.ReaderStates.{MayCome, state_after}
 use Rattle.ps_read.specs.declared.state.ReaderState.{ReaderState}
 
--- of the lines that are in question, none that may come here has this text
+-- none of the lines in question that may come here has this text
 abbrev pub NoneOf : (Line → Type 0) → ReaderState → List ℕ → Type 0
 NoneOf Q p raw = (l : Line) → Q l → raw ≡ line_text l → MayCome p l → ⊥
 
--- one that may come here has it, and all that have it lead to the place
+-- one that may come here has it, and all that have it lead to this state
 pub record IsNextOf (Q : Line → Type 0) (p : ReaderState) (raw : List ℕ) (q : ReaderState) : Type 0 where
   pub line : Line
   pub asked : Q line

@@ -1,5 +1,5 @@
--- What a line tells, put together from its parts, and what a reader of such a line answers: what it tells and that it
--- tells nothing else, or that it tells nothing of this sort.
+-- What a line says, composed from its parts, and what a reader of such a line returns: what the line says and that it
+-- says nothing else, or that it says nothing of this kind.
 use Rattle.std.specs.Prelude.{◌≡◌, ℕ, ℤ, ◌≤◌, ◌^◌, List, Option, MatchOption}
 use Rattle.mus_units.specs.declared.glyph.Size.{Size}
 use Rattle.ps_text.specs.Document.{title_line, join_line, rules_line}

@@ -1,8 +1,7 @@
-//! Pages, read: the one sheet that spells a document, or the first line that
-//! isn't good by the lines before it.
+//! Reads pages. Returns the one sheet that spells a document, or the first line that isn't good given the lines
+//! before it.
 //!
-//! A document is read line by line, in time linear in its length. What the pages
-//! sound is heard by `ps_heard`.
+//! A document is read line by line, in time linear in its length. `ps_heard` determines what the pages sound.
 #![tactic(auto)]
 
 mod lines;

@@ -26,20 +26,21 @@ pub struct Title {
     pub text: Text,
 }
 
-/// The lines of a staff: their length and the height of the lowest.
+/// The five lines of a staff: their length and the height of the lowest.
 #[derive(Clone, Copy, PartialEq, Eq)]
 pub struct Rules {
     pub width: u32,
     pub y: i64,
 }
 
-/// Whether the line is this text.
+/// Returns whether the line is this text.
 pub fn is_text(raw: &[u8], text: &[u8]) -> bool
     ensures { Decides result (raw.now ≡ text.now) }
 {
     raw == text
 }
 
+/// Returns whether the line begins page `k`.
 pub fn is_heading(alloc: Global, raw: &[u8], k: u64) -> Result<bool, Memory>
     ensures { IfOk result (λ r. Decides r (raw.now ≡ heading_line k)) }
 {
@@ -48,6 +49,7 @@ pub fn is_heading(alloc: Global, raw: &[u8], k: u64) -> Result<bool, Memory>
     Ok(line.as_slice() == raw)
 }
 
+/// Returns whether the line numbers staff `k`.
 pub fn is_staff_line(alloc: Global, raw: &[u8], k: u64) -> Result<bool, Memory>
     ensures { IfOk result (λ r. Decides r (raw.now ≡ staff_line k)) }
 {
@@ -56,6 +58,7 @@ pub fn is_staff_line(alloc: Global, raw: &[u8], k: u64) -> Result<bool, Memory>
     Ok(line.as_slice() == raw)
 }
 
+/// Returns whether the line says that there are `n` pages.
 pub fn is_count(alloc: Global, raw: &[u8], n: u64) -> Result<bool, Memory>
     ensures { IfOk result (λ r. Decides r (raw.now ≡ count_line n)) }
 {
@@ -84,7 +87,7 @@ fn title_of(text: Text, zs: &[i64], name: &[u8]) -> Option<Title>
     })
 }
 
-/// The title that a line may tell.
+/// Returns the title that a line may spell.
 fn scan_title(alloc: Global, raw: &[u8]) -> Result<Option<Title>, Memory>
     ensures { IfOk result (λ o.
         (x y : ℤ) (size : Size) (words : List ℕ)
@@ -122,7 +125,7 @@ fn is_title_line(alloc: Global, raw: &[u8], title: &Title) -> Result<bool, Memor
     Ok(line.as_slice() == raw)
 }
 
-/// The title that the line tells.
+/// Returns the title that the line spells.
 pub fn read_title(alloc: Global, raw: &[u8]) -> Result<Option<Title>, Memory>
     ensures { IfOk result (IsTitleRead raw.now) }
 {
@@ -150,7 +153,7 @@ fn joined_of(zs: &[i64]) -> Option<Joined>
     }
 }
 
-/// The line between staves that a line may tell.
+/// Returns the joining line of staves that a line may spell.
 fn scan_join(alloc: Global, raw: &[u8]) -> Result<Option<Joined>, Memory>
     ensures { IfOk result (λ o.
         (top foot : ℤ) → IsNumber top → IsNumber foot → raw.now ≡ join_line top foot → o ≡ Some (joined_of top foot)) }
@@ -167,7 +170,7 @@ fn is_join_line(alloc: Global, raw: &[u8], join: Joined) -> Result<bool, Memory>
     Ok(line.as_slice() == raw)
 }
 
-/// The line between staves that the line tells.
+/// Returns the joining line of staves that the line spells.
 pub fn read_join(alloc: Global, raw: &[u8]) -> Result<Option<Joined>, Memory>
     ensures { IfOk result (IsJoinRead raw.now) }
 {
@@ -205,7 +208,7 @@ fn rules_of(zs: &[i64]) -> Option<Rules>
     }
 }
 
-/// The lines of a staff that a line may tell.
+/// Returns the staff lines that a line may spell.
 fn scan_rules(alloc: Global, raw: &[u8]) -> Result<Option<Rules>, Memory>
     ensures right { IfOk result
         (λ o. (w : ℕ) (y : ℤ) → 1 ≤ w → w ≤ 2 ^ 31 → IsNumber y → raw.now ≡ rules_line w y → o ≡ Some (rules_of w y)) }
@@ -223,7 +226,7 @@ fn is_rules_line(alloc: Global, raw: &[u8], rules: Rules) -> Result<bool, Memory
     Ok(line.as_slice() == raw)
 }
 
-/// The lines of a staff that the line tells.
+/// Returns the staff lines that the line spells.
 pub fn read_rules(alloc: Global, raw: &[u8]) -> Result<Option<Rules>, Memory>
     ensures { IfOk result (IsRulesRead raw.now) }
 {

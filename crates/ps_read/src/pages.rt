@@ -10,7 +10,7 @@ use mus_units::{Memory, Row};
 use ps_text::{Item, Sheet};
 use std::alloc::Global;
 
-/// Whether the line numbers the page behind so many.
+/// Returns whether the line numbers the page after `pages` pages.
 fn is_next_heading(alloc: Global, raw: &[u8], pages: usize) -> Result<bool, Memory>
     ensures { IfOk result (λ r. Decides r ((pages + 1 < 2 ^ 32) × (raw.now ≡ heading_line (pages + 1)))) }
 {
@@ -20,6 +20,7 @@ fn is_next_heading(alloc: Global, raw: &[u8], pages: usize) -> Result<bool, Memo
     is_heading(alloc, raw, pages as u64 + 1)
 }
 
+/// Returns the state after a line that follows whole pages, or `None` if the line isn't good there.
 pub fn after_page(alloc: Global, sheet: Sheet, raw: &[u8]) -> Result<Option<ReaderState>, Memory>
     ensures { IfOk result (IsStep (at.Between sheet) raw.now) }
 {
@@ -32,6 +33,7 @@ pub fn after_page(alloc: Global, sheet: Sheet, raw: &[u8]) -> Result<Option<Read
     Ok(None)
 }
 
+/// Returns the state after a line that follows the number of a page, or `None` if the line isn't good there.
 pub fn after_heading(alloc: Global, sheet: Sheet, raw: &[u8]) -> Option<ReaderState>
     ensures { IsStep (at.Headed sheet) raw.now result }
 {
@@ -60,7 +62,7 @@ fn system_line(alloc: Global, page: OpenPage, raw: &[u8]) -> Option<ReaderState>
     }
 }
 
-/// Any line but a title that may come after an item.
+/// Reads any line except a title that may come after an item.
 pub fn item_line(alloc: Global, page: OpenPage, raw: &[u8]) -> Result<Option<ReaderState>, Memory>
     ensures { IfOk result (IsStepOf IsItemLine (at.Items page) raw.now) }
 {
@@ -77,6 +79,8 @@ pub fn item_line(alloc: Global, page: OpenPage, raw: &[u8]) -> Result<Option<Rea
     }
 }
 
+/// Returns the state after a line that follows the beginning of a page, a tune or a title, or `None` if the line
+/// isn't good there.
 pub fn after_item(alloc: Global, page: OpenPage, raw: &[u8]) -> Result<Option<ReaderState>, Memory>
     ensures { IfOk result (IsStep (at.Items page) raw.now) }
 {
@@ -89,6 +93,7 @@ pub fn after_item(alloc: Global, page: OpenPage, raw: &[u8]) -> Result<Option<Re
     }
 }
 
+/// Returns the state after a line that follows the items of a page, or `None` if the line isn't good there.
 pub fn after_items(page: OpenPage, raw: &[u8]) -> Result<Option<ReaderState>, Memory>
     ensures { IfOk result (IsStep (at.Closed page) raw.now) }
 {
@@ -99,6 +104,7 @@ pub fn after_items(page: OpenPage, raw: &[u8]) -> Result<Option<ReaderState>, Me
     Ok(Some(ReaderState::Between(sheet)))
 }
 
+/// Returns the state after a line that follows the line `%%Trailer`, or `None` if the line isn't good there.
 pub fn after_trailer(alloc: Global, sheet: Sheet, raw: &[u8]) -> Result<Option<ReaderState>, Memory>
     ensures { IfOk result (IsStep (at.Trailer sheet) raw.now) }
 {
@@ -108,6 +114,7 @@ pub fn after_trailer(alloc: Global, sheet: Sheet, raw: &[u8]) -> Result<Option<R
     Ok(None)
 }
 
+/// Returns the state after a line that follows the number of pages, or `None` if the line isn't good there.
 pub fn after_count(sheet: Sheet, raw: &[u8]) -> Option<ReaderState>
     ensures { IsStep (at.Counted sheet) raw.now result }
 {

@@ -17,7 +17,7 @@ use ps_text::prolog::{BOX, LAST, PAGE_START, PROCEDURES, put_glyphs, put_page_li
 use ps_text::{Frame, Sheet};
 use std::alloc::Global;
 
-/// What stands behind the line, where that is the first of the text.
+/// Returns what follows the line, if the text begins with it.
 fn behind<'a>(line: &[u8], text: &'a [u8]) -> Option<&'a [u8]>
     requires { Lacks 10 line.now }
     ensures { MatchOption result (IsFirstLine line.now text.now → ⊥)
@@ -29,6 +29,7 @@ fn behind<'a>(line: &[u8], text: &'a [u8]) -> Option<&'a [u8]>
     }
 }
 
+/// Returns the state after the first line, or `None` if the line isn't good there.
 pub fn after_nothing(raw: &[u8]) -> Option<ReaderState>
     ensures { IsStep at.Begun raw.now result }
 {
@@ -39,6 +40,7 @@ pub fn after_nothing(raw: &[u8]) -> Option<ReaderState>
     }
 }
 
+/// Returns the state after a line that follows the first line, or `None` if the line isn't good there.
 pub fn after_title(alloc: Global, raw: &[u8]) -> Result<Option<ReaderState>, Memory>
     ensures { IfOk result (IsStep at.Titled raw.now) }
 {
@@ -51,7 +53,7 @@ pub fn after_title(alloc: Global, raw: &[u8]) -> Result<Option<ReaderState>, Mem
     }
 }
 
-/// The percent that three digits tell.
+/// Returns the percentage that three digits spell.
 fn percent_of(a: u8, b: u8, c: u8) -> Option<u16>
     ensures { (p : ℕ) → p ≤ 150 → a ≡ 48 + p / 100 → b ≡ 48 + p / 10 % 10 → c ≡ 48 + p % 10 → result ≡ Some p }
 {
@@ -67,7 +69,7 @@ fn percent_of(a: u8, b: u8, c: u8) -> Option<u16>
     Some(u16::from(a - b'0') * 100 + u16::from(b - b'0') * 10 + u16::from(c - b'0'))
 }
 
-/// The percent that these bytes may begin with.
+/// Returns the percentage that these bytes may begin with.
 fn scan_percent(bytes: &[u8]) -> Option<u16>
     ensures { (p : ℕ) (rest : List ℕ) → p ≤ 150 → bytes.now ≡ percent p ++ rest → result ≡ Some p }
 {
@@ -77,7 +79,7 @@ fn scan_percent(bytes: &[u8]) -> Option<u16>
     }
 }
 
-/// The margins and the scale that a line may tell.
+/// Returns the margins and the scale that a line may spell.
 fn scan_page_line(raw: &[u8]) -> Option<(u32, u32, u16)>
     ensures small { IfSome result (λ r. (r.0 < 2 ^ 32) × (r.1 < 2 ^ 32)) }
     ensures told { (left bottom scale : ℕ)
@@ -100,7 +102,7 @@ fn is_page_line(alloc: Global, raw: &[u8], frame: &Frame) -> Result<bool, Memory
     Ok(line.as_slice() == raw)
 }
 
-/// The end of the prolog, from behind the line that tells the scale.
+/// Returns the end of the prolog, from after the line with the scale.
 fn last_lines(alloc: Global) -> Result<Text, Memory>
     ensures { IfOk result (λ t. t ≡ glyph_lines glyphs_in_order ++ last_text) }
 {
@@ -138,6 +140,7 @@ fn page_start(
     Ok(Some(ReaderState::Framed { frame, rest }))
 }
 
+/// Returns the state after a line that follows the bounding box, or `None` if the line isn't good there.
 pub fn after_box(
     alloc: Global,
     wide: u32,
@@ -175,6 +178,7 @@ fn after_prolog(alloc: Global, frame: Frame, rest: &[u8]) -> Result<ReaderState,
     }
 }
 
+/// Returns the state after a line that follows the frame, or `None` if the line isn't good there.
 pub fn after_frame(
     alloc: Global,
     frame: Frame,

@@ -21,8 +21,8 @@ use std::alloc::Global;
 /// Why there is no sheet.
 #[derive(Clone, Copy, PartialEq, Eq)]
 pub enum PagesError {
-    /// The bytes are no document; `line` is the first that isn't good by the
-    /// lines before it, or one past the last where the text ends early.
+    /// The bytes aren't a document; `line` is the first line that isn't good given the lines before it, or one past
+    /// the last if the text ends early.
     NotPages { line: u64 },
     /// Memory ran out.
     Memory,
@@ -36,7 +36,7 @@ impl From<Memory> for PagesError {
     }
 }
 
-/// The place behind the line, or `None` where the line isn't good.
+/// Returns the state after the line, or `None` if the line isn't good.
 fn step(alloc: Global, place: ReaderState, raw: &[u8]) -> Result<Option<ReaderState>, Memory>
     requires { Lacks 10 raw.now }
     ensures { IfOk result (IsStep place raw.now) }
@@ -59,7 +59,7 @@ fn step(alloc: Global, place: ReaderState, raw: &[u8]) -> Result<Option<ReaderSt
     }
 }
 
-/// The sheet that was told, behind the last line of a document.
+/// Returns the sheet that was read, after the last line of a document.
 fn sheet_of(place: ReaderState) -> Option<Sheet>
     ensures { MatchOption result ((s : Sheet) → place ≡ at.Ended s → ⊥) (λ s. place ≡ at.Ended s) }
 {
@@ -69,7 +69,7 @@ fn sheet_of(place: ReaderState) -> Option<Sheet>
     }
 }
 
-/// The sheet that the bytes spell.
+/// Returns the sheet that the bytes spell.
 ///
 /// A last piece without an LF is a line that isn't good. Each line is read once.
 pub fn read_document(alloc: Global, b: &[u8]) -> Result<Sheet, PagesError>
@@ -96,8 +96,8 @@ pub fn read_document(alloc: Global, b: &[u8]) -> Result<Sheet, PagesError>
     }
 }
 
-/// The law that a sheet spells a text exactly where each of its lines is good
-/// by those before it, and the last is `%%EOF`.
+/// The law that a sheet spells a text exactly when each of its lines is good given those before it and the last is
+/// `%%EOF`.
 pub fn good_by_lines()
     ensures { GoodByLines }
 {}

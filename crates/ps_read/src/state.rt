@@ -11,14 +11,14 @@ pub struct Joined {
     pub foot: i64,
 }
 
-/// A page whose items are being listed, behind whole pages.
+/// A page whose items are being read, after whole pages.
 #[derive(Drop)]
 pub struct OpenPage {
     pub sheet: Sheet,
     pub items: Row<Item>,
 }
 
-/// A system whose staves are being listed.
+/// A system whose staves are being read.
 #[derive(Drop)]
 pub struct OpenSystem {
     pub page: OpenPage,
@@ -28,14 +28,14 @@ pub struct OpenSystem {
     pub staves: Row<Staff>,
 }
 
-/// What the lines so far have told.
+/// What the lines so far have said.
 #[derive(Drop)]
 pub enum ReaderState {
-    /// Nothing.
+    /// No line yet.
     Begun,
     /// The first line.
     Titled,
-    /// The bounding box; `rest` comes before the scale.
+    /// The bounding box; `rest` precedes the scale.
     Boxed { wide: u32, high: u32, rest: Text },
     /// The frame; `rest` ends the prolog.
     Framed { frame: Frame, rest: Text },
@@ -55,12 +55,13 @@ pub enum ReaderState {
     Closed(OpenPage),
     /// All pages.
     Trailer(Sheet),
-    /// Their number.
+    /// The number of pages.
     Counted(Sheet),
-    /// All.
+    /// The whole document.
     Ended(Sheet),
 }
 
+/// Adds an item to the page.
 pub fn with_item(mut page: OpenPage, item: Item) -> Result<OpenPage, Memory>
     ensures { IfOk result (λ p. p ≡ with_item page item) }
 {
@@ -77,6 +78,7 @@ pub fn with_page(page: OpenPage) -> Result<Sheet, Memory>
     Ok(sheet)
 }
 
+/// Adds a mark to the staff.
 pub fn staff_with_mark(mut staff: Staff, mark: PageMark) -> Result<Staff, Memory>
     ensures { IfOk result (λ s. s ≡ staff_with_mark staff mark) }
 {

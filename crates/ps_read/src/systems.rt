@@ -14,7 +14,7 @@ use mus_units::{Memory, Row};
 use ps_text::{PageMark, Staff, read_op};
 use std::alloc::Global;
 
-/// The mark that the line tells on the staff.
+/// Returns the mark on the staff that the line spells.
 fn read_mark(alloc: Global, raw: &[u8], staff: &Staff) -> Result<Option<PageMark>, Memory>
     ensures { IfOk result (IsMarkRead staff.now.y raw.now) }
 {
@@ -41,6 +41,8 @@ fn join_next(
     }
 }
 
+/// Returns the state after a line that follows the measures of a system or the line that joins its staves, or
+/// `None` if the line isn't good there.
 pub fn after_system(
     alloc: Global,
     system: OpenSystem,
@@ -54,7 +56,7 @@ pub fn after_system(
     join_next(alloc, system, raw)
 }
 
-/// Whether a staff at `y` may come next.
+/// Returns whether a staff at `y` may come next.
 fn is_under_top(join: Option<Joined>, staves: &[Staff], y: i64) -> bool
     requires { IsNumber y }
     ensures { Decides result (IsUnderTop join staves.now y) }
@@ -65,7 +67,7 @@ fn is_under_top(join: Option<Joined>, staves: &[Staff], y: i64) -> bool
     }
 }
 
-/// The staff that the line begins, where that may come next.
+/// Returns the staff that the line begins, if that staff may come next.
 fn read_staff(alloc: Global, system: &OpenSystem, raw: &[u8]) -> Result<Option<Staff>, Memory>
     ensures { IfOk result (λ o. IsStep (at.Staff system.now) raw.now (option_map (at.Marks system.now) o)) }
 {
@@ -82,6 +84,7 @@ fn read_staff(alloc: Global, system: &OpenSystem, raw: &[u8]) -> Result<Option<S
     }))
 }
 
+/// Returns the state after a line that follows the number of a staff, or `None` if the line isn't good there.
 pub fn after_staff(
     alloc: Global,
     system: OpenSystem,
@@ -95,7 +98,7 @@ pub fn after_staff(
     }
 }
 
-/// Whether a system may end with a staff at `y` behind others.
+/// Returns whether a system may end with a staff at `y` after others.
 fn may_end(join: Option<Joined>, staves: &[Staff], y: i64) -> bool
     ensures { Decides result (MayEnd join staves.now y) }
 {
@@ -105,7 +108,7 @@ fn may_end(join: Option<Joined>, staves: &[Staff], y: i64) -> bool
     }
 }
 
-/// Whether the line numbers a staff behind so many.
+/// Returns whether the line numbers the staff after `staves` staves.
 fn is_next_staff(alloc: Global, raw: &[u8], staves: usize) -> Result<bool, Memory>
     ensures { IfOk result (λ r. Decides r (raw.now ≡ staff_line (staves + 1))) }
 {
@@ -131,7 +134,7 @@ fn leave(
     item_line(alloc, page, raw)
 }
 
-/// Any line but a mark that may come after one.
+/// Reads any line except a mark that may come after a mark.
 fn after_last_mark(
     alloc: Global,
     system: OpenSystem,
@@ -149,6 +152,8 @@ fn after_last_mark(
     Ok(Some(ReaderState::Staff(system_with_staff(system, staff)?)))
 }
 
+/// Returns the state after a line that follows the five lines of a staff or a mark of it, or `None` if the line
+/// isn't good there.
 pub fn after_mark(
     alloc: Global,
     system: OpenSystem,

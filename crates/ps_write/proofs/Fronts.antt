@@ -1,4 +1,4 @@
--- A text of which a front has gone out, and what follows there.
+-- A text of which a prefix has gone out, and the rest that follows.
 use Rattle.std.proofs.Common.{◌≡◌, ℕ, suc, ◌+◌, ◌<◌, List, [], ◌∷◌, ◌++◌, length, take, drop, refl, sym, ap, ◌∙◌, subst}
 use Rattle.std.proofs.Common.{get_or, map, add-one, drop-cons, append-nil, append_assoc, length-append, arith, Option}
 use Rattle.std.proofs.lemmas.List.{take-append-le}
@@ -11,7 +11,7 @@ use Rattle.ps_text.specs.declared.sheet.Page.{Page}
 use Rattle.ps_text.specs.declared.sheet.Sheet.{Sheet}
 use Rattle.ps_write.specs.{Written.{WrotePrefix, counted_from}, declared.steps.DocError.DocError}
 
--- the front of a text went out, after which so many bytes were written, and the rest of it follows
+-- a prefix of the text went out, after which this many bytes were written, and the rest of it follows
 pub record Sent (old new : Option (List ℕ)) (start written : ℕ) (rest all : List ℕ) : Type 0 where
   pub front : List ℕ
   pub whole : all ≡ front ++ rest
@@ -32,7 +32,7 @@ sent_more old mid new start before written text rest all s p e = record {
   count = omega (arith, length-append s.front text, s.count, e);
 }
 
--- all of it did
+-- the whole text went out
 pub sent_all : (old new : Option (List ℕ)) (start written : ℕ) (all : List ℕ)
     → Sent old new start written [] all → Appends old new all × (written ≡ start + length all)
 sent_all old new start written all s =
@@ -49,7 +49,7 @@ wrote_first old new text rest (DocError.Write e) w =
 wrote_first old new text rest DocError.Memory w =
     (w.0, rw (take-append-le w.0 text rest w.2) w.1, omega (arith, length-append text rest, w.2))
 
--- a second one, told for both
+-- a second part that failed, counted for both
 pub wrote_second : (old mid new : Option (List ℕ)) (front text : List ℕ) (n : ℕ) (e : DocError)
     → length front ≡ n → Appends old mid front → WrotePrefix mid new text e
     → WrotePrefix old new (front ++ text) (counted_from n e)
@@ -63,7 +63,7 @@ wrote_second old mid new front text n DocError.Memory k p w = (
   omega (arith, length-append front text, w.2, k),
 )
 
--- a part that failed after n bytes, told for the whole
+-- a part that failed after n bytes, counted for the whole
 pub wrote_part : (old mid new : Option (List ℕ)) (start before n : ℕ) (text rest all : List ℕ) (e : DocError)
     → Sent old mid start before (text ++ rest) all → start + n ≡ before → WrotePrefix mid new text e
     → WrotePrefix old new all (counted_from n e)
@@ -78,7 +78,7 @@ pub document_start : (s : Sheet)
 unfolding document
 document_start s = append_assoc (prolog s.frame) (numbered document_page 1 s.pages) (trailer (length s.pages))
 
--- page i comes first of those that follow
+-- page i is the first of those that follow
 pub next_page : (k i : ℕ) (pages : List Page) (p : Page)
     → i < length pages → p ≡ get_or pages i p
     → numbered document_page k (drop i pages) ≡ document_page k p ++ numbered document_page (k + 1) (drop (i + 1) pages)

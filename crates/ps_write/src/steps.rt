@@ -9,13 +9,13 @@ use ps_text::{Frame, Page, put_page, put_prolog, put_trailer};
 use std::alloc::Global;
 use thiserror::Error;
 
-/// Why a document was not written to its end.
+/// Why a document wasn't written to its end.
 #[derive(Clone, Copy, Debug, PartialEq, Eq, Error)]
 pub enum DocError {
-    /// The sink failed, and exactly the first `written` bytes of the call's text went out.
+    /// The sink failed; exactly the first `written` bytes of the call's text went out.
     #[error("a document was cut off")]
     Write(WriteError),
-    /// Memory ran out; the sink has a front of the call's text.
+    /// Memory ran out; the sink has a prefix of the call's text.
     #[error("out of memory")]
     Memory,
 }
@@ -28,14 +28,14 @@ impl From<Memory> for DocError {
     }
 }
 
-/// A document on its way: how many pages and how many bytes were written.
+/// A document in progress: the number of pages and of bytes written so far.
 #[derive(Drop)]
 pub struct DocWriter {
     pub pages: u32,
     pub written: u64,
 }
 
-/// Writes a piece after `before` bytes of a document, and tells how many bytes of it there are then.
+/// Writes a piece after `before` bytes of a document. Returns the number of bytes of the document after it.
 pub(crate) fn send<O: Sink>(sink: &mut O, piece: &[u8], before: u64) -> Result<u64, DocError>
     ensures wrote { Wrote (O.taken sink.old) (O.taken sink.new) piece.now result }
     ensures counts { Counted (O.faults sink.old) (O.faults sink.new) result }
@@ -51,8 +51,8 @@ pub(crate) fn send<O: Sink>(sink: &mut O, piece: &[u8], before: u64) -> Result<u
     }
 }
 
-/// Writes the prolog of a document, up to and with the line `%%EndProlog`. Write comes only where the
-/// sink's count of faults rose, Ok only where it didn't and the whole text went out.
+/// Writes the prolog of a document, up to and including the line `%%EndProlog`. Returns `Write` only if the sink's
+/// fault count rose, and `Ok` only if it didn't and the whole text went out.
 pub fn begin<O: Sink>(alloc: Global, frame: &Frame, sink: &mut O) -> Result<DocWriter, DocError>
     requires { IsFrame frame.now }
     ensures wrote { Wrote (O.taken sink.old) (O.taken sink.new) (prolog frame.now) result }

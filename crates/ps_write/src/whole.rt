@@ -8,7 +8,7 @@ use eng_io::{Sink, WriteError};
 use ps_text::Sheet;
 use std::alloc::Global;
 
-/// An error of a step that began after `before` bytes, told for the whole document.
+/// Returns the error of a step that began after `before` bytes, counted from the start of the document.
 fn counted_from(before: u64, e: DocError) -> DocError
     requires { FitsError before e }
     ensures { result ≡ counted_from before e }
@@ -21,9 +21,8 @@ fn counted_from(before: u64, e: DocError) -> DocError
     }
 }
 
-/// Writes the document of a sheet. Write comes only where the sink's count of
-/// faults rose, and exactly the first `written` bytes of the document went out;
-/// Ok only where the count didn't rise and all of it went out.
+/// Writes the document of a sheet. Returns `Write` only if the sink's fault count rose, and then exactly the first
+/// `written` bytes of the document went out; `Ok` only if the count didn't rise and the whole document went out.
 pub fn write_document<O: Sink>(alloc: Global, s: &Sheet, sink: &mut O) -> Result<(), DocError>
     requires { IsSheet s.now }
     ensures wrote { Wrote (O.taken sink.old) (O.taken sink.new) (document s.now) result }
