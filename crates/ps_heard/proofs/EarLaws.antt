@@ -1,4 +1,4 @@
--- What a listener keeps in mind behind some columns is what these columns tell.
+-- What a listener remembers after some columns is what these columns determine.
 use Rattle.std.proofs.Common.{◌≡◌, refl, sym, ap, ◌∙◌, subst, ℕ, suc, ◌+◌, ◌-◌, ◌<◌, List, [], ◌∷◌, ◌++◌, map, reverse}
 use Rattle.std.proofs.Common.{length, drop, drop-cons, get_or, append-nil, append_assoc, arith}
 use Rattle.std.proofs.lemmas.Grind.{reverse_onto}
@@ -20,7 +20,7 @@ abbrev pub ear_with : Clef → List Sign → List Head → List Heard → List H
 ear_with c k said before here heard =
     record { clef = c; key = record { signs = k }; said = said; before = before; here = here; heard = heard }
 
--- behind some columns, the nearest first
+-- after some columns, the nearest first
 abbrev pub ear_at : Spread → List HeardColumn → Listener
 ear_at spread cols =
     ear_with (clef_heard cols) (key_heard cols) (said_before cols) (last_heads spread cols) [] (heads_heard spread cols)

@@ -1,4 +1,4 @@
--- Columns that are filled mark after mark are the columns of the marks.
+-- Columns that are filled mark by mark are the columns of the marks.
 use Rattle.std.proofs.Common.{◌≡◌, refl, sym, ap, ◌∙◌, subst, ℕ, zero, suc, ◌+◌, ◌<◌, Bool, true, false, ◌&&◌, List, []}
 use Rattle.std.proofs.Common.{◌∷◌, ◌++◌, length, get_or, set, drop, drop-cons, arith, ℤ, pos, ◌-ℤ◌, append-nil}
 use Rattle.std.proofs.Common.{append_assoc}
@@ -33,7 +33,7 @@ changed f c b e = ap (λ t. if t then f c else c) e
 joined : (c d : HeardColumn) (cs ds : List HeardColumn) → c ≡ d → cs ≡ ds → c ∷ cs ≡ d ∷ ds
 joined c d cs ds e f = rw (e, f) refl
 
--- where the anchor is no place, nothing changes
+-- if the anchor is no place, nothing changes
 pub absent : (x : ℤ) (f : HeardColumn → HeardColumn) (ys : List ℤ) (cs : List HeardColumn)
     → list_any (int_eq x) ys ≡ false → at_place x f ys cs ≡ cs
 absent x f [] cs e = refl
@@ -57,7 +57,7 @@ below_at y [] k d b h = absurd (none_short k h)
 below_at y (w ∷ ws) zero d b h = b.0
 below_at y (w ∷ ws) (suc k) d b h = below_at y ws k d b.1 (omega arith)
 
--- the place of the anchor is changed, and no other
+-- the column at the anchor's place is changed, and no other
 pub present : (x : ℤ) (f : HeardColumn → HeardColumn) (ys : List ℤ) (cs : List HeardColumn) (k : ℕ) (v : HeardColumn)
     → IsStrictlySortedBy int_cmp ys → k < length ys
     → length cs ≡ length ys → ((d : ℤ) → get_or ys k d ≡ x) → get_or cs k v ≡ v → set cs k (f v) ≡ at_place x f ys cs
@@ -76,7 +76,7 @@ present x f (y ∷ ys) (c ∷ cs) (suc k) v s h l at is =
     (sym (as_it_is f c (int_eq x y) (other x y low)))
     (present x f ys cs k v s.1 (omega arith) (omega arith) at is)
 
--- ---- what a mark tells of each column
+-- ---- what a mark means for each column
 nothing_one : (c : HeardColumn) → record c { notes = c.notes ++ []; ties = c.ties ++ [] } ≡ c
 nothing_one c =
     ap (λ t. record { leads = c.leads; notes = t; ties = c.ties ++ [] }) (append-nil c.notes)
@@ -98,7 +98,7 @@ glyph_told g x dx dy (y ∷ ys) (c ∷ cs) =
     (with_page_mark (PageMark.Glyph g x dx dy) ys cs) (at_place x (with_note (role_of g dy) dy) ys cs)
     (glyph_one c (int_eq x y) (noted (role_of g dy) dy)) (glyph_told g x dx dy ys cs)
 
--- the same of what was passed
+-- the same, as passed to the code
 pub glyph_passed : (g : Glyph) (x dx dy at low high : ℤ) (role : Role) (ys : List ℤ) (cs new : List HeardColumn)
     → at ≡ x → low ≡ dy → high ≡ dy → role ≡ role_of g low
     → new ≡ at_place at (with_note role high) ys cs → new ≡ with_page_mark (PageMark.Glyph g x dx dy) ys cs
@@ -137,7 +137,7 @@ tie_passed x1 x2 from to bulge at end passed ys cs new tie e f h is =
     ∙ ap (λ z. at_place x2 (with_tie_at z) ys cs) (f ∙ h)
     ∙ sym (tie_told x1 x2 from to bulge ys cs tie)
 
--- a mark that tells nothing
+-- a mark that means nothing
 quiet_one : (c : HeardColumn) (ns : List HeardGlyph) (ts : List ℤ)
     → ns ≡ [] → ts ≡ [] → record c { notes = c.notes ++ ns; ties = c.ties ++ ts } ≡ c
 quiet_one c ns ts e f =
@@ -175,7 +175,7 @@ slur_told x1 x2 from to bulge ys cs e =
     quiet_told (PageMark.Arc x1 x2 from to bulge) ys cs (λ y. refl)
     (λ y. no_tie (int_eq x2 y) (bulges_as_tie bulge) (to -ℤ bulge) e)
 
--- ---- mark after mark
+-- ---- mark by mark
 pub mark_length : (m : PageMark) (ys : List ℤ) (cs : List HeardColumn) → length (with_page_mark m ys cs) ≡ length cs
 mark_length m [] cs = refl
 mark_length m (y ∷ ys) [] = refl

@@ -1,4 +1,4 @@
--- Numbers in rising order, each once, and one of them sought.
+-- Numbers in rising order, each once, and the search for one of them.
 use Rattle.std.proofs.Common.{◌≡◌, refl, sym, ap, ◌∙◌, subst, ℕ, ◌<◌, ◌≤◌, Bool, true, false, cond, ◌||◌, nat_lt, List}
 use Rattle.std.proofs.Common.{[], ◌∷◌, length, get_or, arith, ℤ}
 use Rattle.std.proofs.lemmas.Bool.{false≢true}
@@ -31,7 +31,7 @@ less_of x y e = ap (λ b. cond b Less (cond (int_lt y x) Greater Equal)) e
 past : (x y : ℤ) → int_lt x y ≡ false → int_eq x y ≡ false → int_lt y x ≡ true
 past x y e f = grind (arith, ints)
 
--- one that is less isn't equal
+-- a number that is less isn't equal
 apart : (x y : ℤ) → int_cmp x y ≡ Less → int_eq x y ≡ false
 apart x y e = ap is_eq e
 
@@ -168,7 +168,7 @@ rising_is xs ys s all only =
     same_tests (list_any (int_eq z) ys) (list_any (int_eq z) xs) (among z ys xs only) (among z xs ys all)
     ∙ sym (among_rising z xs))
 
--- ---- sought
+-- ---- the search
 index_by : (a b x : ℤ) (r s : Ordering)
     → int_cmp a x ≡ r → int_cmp b x ≡ s → int_cmp a b ≡ Less → ordering_index r ≤ ordering_index s
 index_by a b x Less Less e f l = omega arith
@@ -200,7 +200,7 @@ index_cases xs x i j d false e s l h =
     subst (λ k. ordering_index (int_cmp (get_or xs i d) x) ≤ ordering_index (int_cmp (get_or xs k d) x)) same
     (omega arith)
 
--- what is sought never falls along numbers that rise
+-- the comparison with the sought number never falls along rising numbers
 pub sought : (xs : List ℤ) (x : ℤ)
     → IsStrictlySortedBy int_cmp xs → IsNonDecreasingBy (λ y. ordering_index (int_cmp y x)) xs
 sought xs x s i j d l h = index_cases xs x i j d (nat_lt i j) refl s l h
@@ -222,7 +222,7 @@ none_by x xs i false e p = e
 none_by x xs i true e p =
     let c = Contains-from_any eq_is x xs e in absurd (lies x xs i c.0 (nat_lt c.0 i) refl c.1 c.2 p)
 
--- behind all that are less and before all that are greater there is none
+-- after all that are less and before all that are greater there is none
 pub none_there : (x : ℤ) (xs : List ℤ) (i : ℕ)
     → IsPartitionPoint (λ y. int_cmp y x ≡ Less) (λ y. int_cmp y x ≡ Greater) xs i → list_any (int_eq x) xs ≡ false
 none_there x xs i p = none_by x xs i (list_any (int_eq x) xs) refl p

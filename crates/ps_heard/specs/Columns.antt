@@ -1,7 +1,7 @@
 -- The columns of a staff of a system. The anchors of all staves of the system, from the left and each once, are the
--- places of its columns. A column has what the glyphs at its anchor tell, in the staff's order, and the heights of the
--- heads at which a tie ends there: an arc of bulge 400 or -400 ends that far from its head. The first column of a
--- system leads it.
+-- places of its columns. A column has the meanings of the glyphs at its anchor, in the staff's order, and the heights
+-- of the heads at which a tie ends there: an arc of bulge 400 or -400 ends that far from its head. The first column
+-- of a system leads it.
 use Rattle.std.specs.Prelude.{ℤ, pos, negsuc, ◌-ℤ◌, ◌||◌, ◌&&◌, int_lt, if◌then◌else◌, Bool, true, false, List, [], ◌∷◌}
 use Rattle.std.specs.Prelude.{flat_map}
 use Rattle.std.specs.Ordering.{int_eq}
@@ -11,12 +11,12 @@ use Rattle.ps_heard.specs.declared.column.HeardGlyph.{HeardGlyph}
 use Rattle.ps_heard.specs.declared.column.Role.{Role}
 use Rattle.ps_heard.specs.Roles.{role_of}
 
--- quiet glyphs tell nothing
+-- quiet glyphs mean nothing
 abbrev pub noted : Role → ℤ → List HeardGlyph
 noted Role.Quiet dy = []
 noted role dy = record { role = role; dy = dy } ∷ []
 
--- what a mark tells at an anchor: only glyphs tell something
+-- what a mark means at an anchor: only glyphs mean something
 abbrev pub glyphs_at : ℤ → PageMark → List HeardGlyph
 glyphs_at x (PageMark.Glyph glyph at dx dy) = if int_eq at x then noted (role_of glyph dy) dy else []
 glyphs_at x _ = []
@@ -32,7 +32,7 @@ tie_at x _ = []
 unfoldable pub column_at : Bool → List PageMark → ℤ → HeardColumn
 column_at leads ms x = record { leads = leads; notes = flat_map (glyphs_at x) ms; ties = flat_map (tie_at x) ms }
 
--- numbers that rise, with one more, where it isn't among them
+-- rising numbers with one more, unless it is among them
 abbrev pub inserted : ℤ → List ℤ → List ℤ
 inserted x [] = x ∷ []
 inserted x (y ∷ ys) = if int_lt x y then x ∷ y ∷ ys else if int_eq x y then y ∷ ys else y ∷ inserted x ys

@@ -1,5 +1,5 @@
--- What a listener keeps in mind, column after column from the left. This is the way that the program takes; what it
--- comes to is said in Hearing.
+-- What a listener remembers, column by column from the left. This is how the program computes it; Hearing says what
+-- the result is.
 use Rattle.std.specs.Prelude.{if◌then◌else◌, List, [], ◌∷◌, ◌++◌}
 use Rattle.mus_units.specs.declared.{key.Spread.Spread, pitch.Clef.Clef}
 use Rattle.ps_heard.specs.declared.column.HeardColumn.{HeardColumn}
@@ -8,7 +8,7 @@ use Rattle.ps_heard.specs.declared.column.HeardGlyph.{HeardGlyph}
 use Rattle.ps_heard.specs.Hearing.{clef_behind, entries, gives_key, head_of_glyph, heard_of_glyph, last_or}
 use Rattle.ps_heard.specs.Hearing.{heard_if_note, said_with}
 
--- a mark: a bar ends the measure, a head is said, and listed where it is no grace note's
+-- a mark: a bar ends the measure; a head counts for its measure, and is listed unless it is a grace note's
 abbrev pub hear_one : Spread → HeardColumn → Listener → HeardGlyph → Listener
 hear_one spread col ear n = record ear {
   said = said_with n.role (head_of_glyph ear.clef n.dy col.notes) ear.said;
@@ -28,7 +28,7 @@ column_opened ear col = record ear {
   };
 }
 
--- behind a column its heads are the last ones, if it has some
+-- after a column its heads are the last ones, if it has any
 abbrev pub column_closed : Listener → Listener
 column_closed ear = record ear { before = last_or ear.before ear.here; here = []; heard = ear.heard ++ ear.here }
 
@@ -39,6 +39,6 @@ abbrev pub hear_columns : Spread → Listener → List HeardColumn → Listener
 hear_columns spread ear [] = ear
 hear_columns spread ear (col ∷ cols) = hear_columns spread (hear_column spread ear col) cols
 
--- at first
+-- the initial listener
 abbrev pub fresh : Listener
 fresh = record { clef = Clef.Treble; key = record { signs = [] }; said = []; before = []; here = []; heard = [] }

@@ -1,5 +1,5 @@
--- How the columns of a staff are filled, mark after mark. This is the way that the program takes; what the columns are
--- is said in Columns.
+-- How the columns of a staff are filled, mark by mark. This is how the program computes them; Columns says what they
+-- are.
 use Rattle.std.specs.Prelude.{ℤ, if◌then◌else◌, List, [], ◌∷◌, ◌++◌}
 use Rattle.std.specs.Ordering.{int_eq}
 use Rattle.ps_text.specs.declared.marks.PageMark.{PageMark}
@@ -13,13 +13,13 @@ with_note role dy c = record c { notes = c.notes ++ noted role dy }
 abbrev pub with_tie_at : ℤ → HeardColumn → HeardColumn
 with_tie_at dy c = record c { ties = c.ties ++ dy ∷ [] }
 
--- the column at an anchor changed, and the others as they are
+-- the columns with the one at an anchor changed
 abbrev pub at_place : ℤ → (HeardColumn → HeardColumn) → List ℤ → List HeardColumn → List HeardColumn
 at_place x f [] cs = cs
 at_place x f (y ∷ ys) [] = []
 at_place x f (y ∷ ys) (c ∷ cs) = (if int_eq x y then f c else c) ∷ at_place x f ys cs
 
--- each column with what one more mark tells of it
+-- each column with what one more mark means for it
 abbrev pub with_page_mark : PageMark → List ℤ → List HeardColumn → List HeardColumn
 with_page_mark m [] cs = cs
 with_page_mark m (y ∷ ys) [] = []

@@ -1,6 +1,6 @@
--- The text of what a sheet sounds. For each tune a line `tune` and its ordinal; for each of its staves, counted from 0,
--- a line `staff` and its place; and for each head a line with its letter in capital, its alteration in half steps, -2
--- to 2, and its octave.
+-- The text of what a sheet sounds. For each tune, a line `tune` and its ordinal; for each of its staves, counted from
+-- 0, a line `staff` and its number; and for each head a line with its letter in capital, its alteration in half
+-- steps, -2 to 2, and its octave.
 use Rattle.std.specs.{Prelude.{ℕ, ℤ, pos, negsuc, List, ◌++◌, codes, decimal, flat_map}, Fmt.signed_decimal}
 use Rattle.mus_units.specs.declared.key.Spread.{Spread}
 use Rattle.mus_units.specs.declared.pitch.Alter.{Alter}
@@ -20,7 +20,7 @@ letter_text Letter.G = codes "G"
 letter_text Letter.A = codes "A"
 letter_text Letter.B = codes "B"
 
--- half steps up
+-- half steps, upwards
 abbrev pub half_steps : Alter → ℤ
 half_steps Alter.Flat2 = negsuc 1
 half_steps Alter.Flat = negsuc 0
@@ -42,6 +42,6 @@ heard_tune_text spread part =
     codes "tune " ++ decimal part.ordinal ++ codes "\n"
     ++ numbered heard_staff_text 0 (staves_heard spread part.systems)
 
--- tune after tune
+-- the text, tune by tune
 abbrev pub heard_text : Spread → Sheet → List ℕ
 heard_text spread s = flat_map (heard_tune_text spread) (tunes_of (items_of s))

@@ -1,11 +1,11 @@
--- How the heads of a staff sound, by its columns alone. A column is looked at with those before it, the nearest first.
--- Its clef is that of the last clef at or before it, at first treble. Its key is that of the last column at or before
--- it that gives one, at first without signs: a column of no heads that has signs gives a key, and the first column of a
--- system gives one whatever it has. A bar ends a measure. The alteration of a head is the first of these that there is:
--- the sign at its height in its column; where a tie ends at it, the alteration of the head before the tie; the last
--- sign of an earlier head of its measure that the spread reaches; its key's; natural. The head before a tie is the
--- first of that letter and octave in the last earlier column of heads. Heads of grace notes count for signs,
--- and are not listed.
+-- How the heads of a staff sound, by its columns alone. A column is seen with those before it, the nearest first. Its
+-- clef is the last clef at or before it, initially treble. Its key is that of the last column at or before it that
+-- sets one, initially without accidentals. A column without heads that has accidentals sets a key, and the first
+-- column of a system sets one whatever it has. A bar ends a measure. The alteration of a head is the first of these
+-- that exists: the accidental at its height in its column; if a tie ends at it, the alteration of the head before the
+-- tie; the last accidental of an earlier head of its measure that the spread reaches; the key's; natural. The head
+-- before a tie is the first with that letter and octave in the last earlier column that has heads. Heads of grace
+-- notes count for accidentals, but are not listed.
 use Rattle.std.specs.Prelude.{ℤ, ◌||◌, ◌&&◌, not, Bool, true, false, if◌then◌else◌, List, [], ◌∷◌, ◌++◌, reverse}
 use Rattle.std.specs.Prelude.{Option, Some, None, unwrap_or}
 use Rattle.std.specs.List.{find, list_any}
@@ -25,7 +25,7 @@ use Rattle.ps_heard.specs.declared.column.HeardGlyph.{HeardGlyph}
 use Rattle.ps_heard.specs.declared.column.Role.{Role}
 use Rattle.ps_heard.specs.Roles.{pitch_at}
 
--- the last clef among what is noted, else the one before
+-- the last clef among these glyphs, or else the one before
 abbrev pub clef_or : Clef → Role → Clef
 clef_or c (Role.Clef new) = new
 clef_or c _ = c
@@ -38,7 +38,7 @@ abbrev pub clef_heard : List HeardColumn → Clef
 clef_heard [] = Clef.Treble
 clef_heard (col ∷ earlier) = clef_behind (clef_heard earlier) col.notes
 
--- signs as entries of a key, by height and clef; the first of a letter counts, as in each key
+-- accidentals as entries of a key, by height and clef; the first for a letter counts, as in each key
 abbrev pub entry : Clef → ℤ → Role → List Sign
 entry c dy (Role.Sign a) = record { letter = (pitch_at c dy).letter; alter = a } ∷ []
 entry c dy _ = []
@@ -56,7 +56,7 @@ is_head Role.Head = true
 is_head Role.Grace = true
 is_head _ = false
 
--- the first column of a system gives the key, and each that has signs and no heads
+-- the first column of a system sets the key, and so does each that has accidentals and no heads
 abbrev pub gives_key : Bool → List HeardGlyph → Bool
 gives_key leads ns = leads || (list_any (λ n. is_sign n.role) ns && not (list_any (λ n. is_head n.role) ns))
 
@@ -65,7 +65,7 @@ key_heard [] = []
 key_heard (col ∷ earlier) =
     if gives_key col.leads col.notes then entries (clef_heard (col ∷ earlier)) col.notes else key_heard earlier
 
--- the first sign at a height
+-- the first accidental at a height
 abbrev pub sign_if : ℤ → ℤ → Role → Option Alter
 sign_if dy at (Role.Sign a) = if int_eq at dy then Some a else None
 sign_if dy at _ = None
@@ -78,11 +78,11 @@ abbrev pub sign_of_glyph : ℤ → List HeardGlyph → Option Alter
 sign_of_glyph dy [] = None
 sign_of_glyph dy (n ∷ ns) = first_alter (sign_if dy n.dy n.role) (sign_of_glyph dy ns)
 
--- a head at a height of a column: its pitch, and its sign
+-- a head at a height of a column: its pitch and its accidental
 abbrev pub head_of_glyph : Clef → ℤ → List HeardGlyph → Head
 head_of_glyph c dy ns = record { pitch = pitch_at c dy; sign = sign_of_glyph dy ns; tied = false }
 
--- the heads so far in a measure: none behind a bar, and one more behind each head
+-- the heads so far in a measure: none after a bar, and one more after each head
 abbrev pub said_with : Role → Head → List Head → List Head
 said_with Role.Bar h said = []
 said_with Role.Head h said = said ++ h ∷ []
@@ -98,7 +98,7 @@ abbrev pub said_before : List HeardColumn → List Head
 said_before [] = []
 said_before (col ∷ earlier) = said_with_column (clef_heard (col ∷ earlier)) col (said_before earlier) col.notes
 
--- the head before a tie that ends at a head: the first of its letter and octave
+-- the head before a tie that ends at a head: the first with its letter and octave
 abbrev pub is_same_pitch : Pitch → Heard → Bool
 is_same_pitch p x = same_letter x.pitch.letter p.letter && int_eq x.pitch.octave p.octave
 
@@ -106,12 +106,12 @@ abbrev pub tied_from : Bool → List Heard → Pitch → Option Heard
 tied_from true before p = find (is_same_pitch p) before
 tied_from false before p = None
 
--- the first of these that there is: its own sign, the alteration before its tie, the last sign that reaches it,
--- its key's, natural
+-- the first of these that exists: its own accidental, the alteration before its tie, the last accidental that reaches
+-- it, the key's, natural
 abbrev pub first_there : Option Alter → Option Alter → Option Alter → Option Alter → Alter
 first_there own tied said key = unwrap_or own (unwrap_or tied (unwrap_or said (unwrap_or key Alter.Natural)))
 
--- a head at a height of a column, behind the heads of its measure
+-- a head at a height of a column, after the heads of its measure
 abbrev pub heard_of_glyph : Spread → HeardColumn → Clef → List Sign → List Heard → List Head → ℤ → Heard
 heard_of_glyph spread col c key before said dy = record {
   pitch = pitch_at c dy;
@@ -126,25 +126,25 @@ abbrev pub heard_if_note : Role → Heard → List Heard
 heard_if_note Role.Head x = x ∷ []
 heard_if_note _ x = []
 
--- the heads of a column, each behind those before it
+-- the heads of a column, each after those before it
 abbrev pub heads_from : Spread → HeardColumn → Clef → List Sign → List Heard → List Head → List HeardGlyph → List Heard
 heads_from spread col c key before said [] = []
 heads_from spread col c key before said (n ∷ ns) =
     heard_if_note n.role (heard_of_glyph spread col c key before said n.dy)
     ++ heads_from spread col c key before (said_with n.role (head_of_glyph c n.dy col.notes) said) ns
 
--- the heads of the nearest column, where those of the last column of heads before it are known
+-- the heads of the nearest column, given those of the last column before it that has heads
 abbrev pub heads_of_column : Spread → List Heard → HeardColumn → List HeardColumn → List Heard
 heads_of_column spread before col earlier =
     heads_from spread col (clef_heard (col ∷ earlier)) (key_heard (col ∷ earlier)) before (said_before earlier)
     col.notes
 
--- those of a column, else those before it
+-- those of a column if it has any, or else those before it
 abbrev pub last_or : List Heard → List Heard → List Heard
 last_or before [] = before
 last_or before (x ∷ xs) = x ∷ xs
 
--- the heads of the last column of heads
+-- the heads of the last column that has heads
 abbrev pub last_heads : Spread → List HeardColumn → List Heard
 last_heads spread [] = []
 last_heads spread (col ∷ earlier) =

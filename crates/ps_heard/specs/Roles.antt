@@ -1,4 +1,4 @@
--- What a glyph tells a listener, and the pitch at a height of a staff.
+-- What a glyph means to a listener, and the pitch at a height of a staff.
 use Rattle.std.specs.{Prelude.ℤ, Prelude.pos, Prelude.◌+ℤ◌, Prelude.if◌then◌else◌, Int.int_div_euclid, Ordering.int_eq}
 use Rattle.mus_units.specs.Pitch.{bottom_of}
 use Rattle.mus_units.specs.declared.glyph.Glyph.{Glyph}
@@ -34,6 +34,6 @@ role_of Glyph.Bb dy = Role.Bar
 role_of Glyph.Bo dy = Role.Bar
 role_of _ dy = Role.Quiet
 
--- a step is 250 high
+-- a step is 250 u high
 unfoldable pub pitch_at : Clef → ℤ → Pitch
 pitch_at c dy = pitch_of_steps (int_div_euclid dy (pos 250) +ℤ pos (bottom_of c))

@@ -1,6 +1,6 @@
--- What the tunes of a sheet sound. The systems of a tune are those behind its Tune item and before the next one. A
--- staff is heard through all of them in order, where they have it.
--- There are as many staves as the largest of these systems has.
+-- What the tunes of a sheet sound. The systems of a tune are those after its Tune item and before the next one. A
+-- staff is heard through all of them in order, if they have it. There are as many staves as the largest of these
+-- systems has.
 use Rattle.std.specs.Prelude.{ℕ, ℤ, max, List, [], ◌∷◌, length, map, flat_map, slice_get, Option, Some, None}
 use Rattle.std.specs.List.{range_with_len}
 use Rattle.mus_units.specs.declared.key.Spread.{Spread}
@@ -15,7 +15,7 @@ use Rattle.ps_heard.specs.declared.tunes.SheetTune.{SheetTune}
 use Rattle.ps_heard.specs.Columns.{heard_columns_of}
 use Rattle.ps_heard.specs.Hearing.{heard_of}
 
--- the items of a sheet, page after page
+-- the items of a sheet, page by page
 abbrev pub items_of : Sheet → List Item
 items_of s = flat_map (λ (p : Page). p.items) s.pages
 
@@ -26,7 +26,7 @@ systems_till (Item.Tune ordinal ∷ rest) = []
 systems_till (Item.Title x y size text ∷ rest) = systems_till rest
 systems_till (Item.System a b staves ∷ rest) = staves ∷ systems_till rest
 
--- the tunes in order: the ordinal of each, and its systems
+-- the tunes in order: for each its ordinal and its systems
 abbrev pub tunes_of : List Item → List SheetTune
 tunes_of [] = []
 tunes_of (Item.Tune ordinal ∷ rest) = record { ordinal = ordinal; systems = systems_till rest } ∷ tunes_of rest
@@ -44,12 +44,12 @@ heard_staff_columns k staves = columns_if (anchors staves) (slice_get staves k)
 abbrev pub staff_heard : Spread → List (List Staff) → ℕ → List Heard
 staff_heard spread systems k = heard_of spread (flat_map (heard_staff_columns k) systems)
 
--- how many staves the largest of some systems has
+-- the number of staves of the largest of these systems
 abbrev pub most_staves : List (List Staff) → ℕ
 most_staves [] = 0
 most_staves (staves ∷ rest) = max (length staves) (most_staves rest)
 
--- staff after staff
+-- what is heard, staff by staff
 abbrev pub staves_heard : Spread → List (List Staff) → List (List Heard)
 staves_heard spread systems = map (staff_heard spread systems) (range_with_len 0 (most_staves systems))
 
@@ -57,6 +57,6 @@ abbrev pub part_heard : Spread → Option SheetTune → List (List Heard)
 part_heard spread None = []
 part_heard spread (Some part) = staves_heard spread part.systems
 
--- what the tune at a place among the tunes of a sheet sounds; nothing where there is no such tune
+-- what the tune at an index among the tunes of a sheet sounds; nothing if there is no such tune
 abbrev pub heard_in : Sheet → ℕ → Spread → List (List Heard)
 heard_in s tune spread = part_heard spread (slice_get (tunes_of (items_of s)) tune)

@@ -8,7 +8,7 @@ use mus_units::{Memory, Row};
 use ps_text::{PageMark, Staff};
 use std::alloc::Global;
 
-/// Adds the anchor of a mark, if it stands at one.
+/// Adds the anchor of a mark, if the mark is at one.
 fn put_anchor(out: &mut Row<i64>, mark: &PageMark) -> Result<(), Memory>
     ensures { OnOk result (out.new ≡ out.old ++ anchor_of mark.now) }
 {
@@ -29,7 +29,7 @@ fn put_anchors(out: &mut Row<i64>, marks: &[PageMark]) -> Result<(), Memory>
     Ok(())
 }
 
-/// The anchors of all staves of a system.
+/// Returns the anchors of all staves of a system.
 #[tactic(auto, unfolding(ps_text::specs::Ranks::anchors))]
 fn anchors_of(alloc: Global, staves: &[Staff]) -> Result<Row<i64>, Memory>
     ensures { IfOk result (λ r. r ≡ anchors staves.now) }
@@ -41,7 +41,7 @@ fn anchors_of(alloc: Global, staves: &[Staff]) -> Result<Row<i64>, Memory>
     Ok(out)
 }
 
-/// The numbers of a row in rising order, each once.
+/// Returns the numbers of a row in rising order, each once.
 fn rising(numbers: Row<i64>) -> Row<i64>
     ensures value { result ≡ rising numbers }
     ensures rise { IsStrictlySortedBy int_cmp result }
@@ -52,7 +52,7 @@ fn rising(numbers: Row<i64>) -> Row<i64>
     Row { items }
 }
 
-/// The places of the columns of a system, from the left.
+/// Returns the places of the columns of a system, from the left.
 pub fn places_of(alloc: Global, staves: &[Staff]) -> Result<Row<i64>, Memory>
     ensures value { IfOk result (λ r. r ≡ rising (anchors staves.now)) }
     ensures rise { IfOk result (λ r. IsStrictlySortedBy int_cmp r) }
@@ -60,7 +60,7 @@ pub fn places_of(alloc: Global, staves: &[Staff]) -> Result<Row<i64>, Memory>
     Ok(rising(anchors_of(alloc, staves)?))
 }
 
-/// The place of a number among numbers that rise, if it is one of them.
+/// Returns the index of a number among rising numbers, if it is one of them.
 pub fn place_of(numbers: &[i64], x: i64) -> Option<usize>
     requires { IsStrictlySortedBy int_cmp numbers.now }
     ensures { MatchOption result (list_any (int_eq x) numbers.now ≡ false)

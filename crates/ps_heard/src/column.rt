@@ -2,7 +2,7 @@
 
 use mus_units::{Alter, Clef, Head, Key, Pitch, Row};
 
-/// What a glyph tells a listener.
+/// What a glyph means to a listener.
 #[derive(Clone, Copy, PartialEq, Eq)]
 pub enum Role {
     Clef(Clef),
@@ -13,15 +13,15 @@ pub enum Role {
     Quiet,
 }
 
-/// A glyph that tells something, and its height in u.
+/// A glyph with a meaning to listeners, and its height in u.
 #[derive(Clone, Copy, PartialEq, Eq)]
 pub struct HeardGlyph {
     pub role: Role,
     pub dy: i32,
 }
 
-/// The marks of a staff at one anchor: whether the anchor is the first of its system, what its glyphs
-/// tell, in the staff's order, and the heights of the heads at which a tie ends.
+/// The marks of a staff at one anchor: whether the anchor is the first of its system, the meanings of its glyphs in
+/// the staff's order, and the heights of the heads at which a tie ends.
 #[derive(Drop)]
 pub struct HeardColumn {
     pub leads: bool,
@@ -36,8 +36,8 @@ pub struct Heard {
     pub alter: Alter,
 }
 
-/// What a listener keeps in mind: the clef and the key, the heads so far in the measure, the heads of
-/// the last column of heads, those so far in this column, and all heads of the columns before it.
+/// What a listener remembers: the clef and the key, the heads so far in the measure, the heads of the last column
+/// that has any, those so far in this column, and all heads of the columns before it.
 #[derive(Drop)]
 pub struct Listener {
     pub clef: Clef,

@@ -12,7 +12,7 @@ use ps_text::PageMark;
 use std::alloc::Global;
 
 impl HeardColumn {
-    /// Notes what a glyph tells.
+    /// Adds the meaning of a glyph.
     fn note(&mut self, role: Role, dy: i32) -> Result<(), Memory>
         ensures { OnOk result (self.new ≡ with_note role dy self.old) }
     {
@@ -22,7 +22,7 @@ impl HeardColumn {
         }
     }
 
-    /// Notes the height of a head at which a tie ends.
+    /// Adds the height of a head at which a tie ends.
     fn tie(&mut self, dy: i64) -> Result<(), Memory>
         ensures { OnOk result (self.new ≡ with_tie_at dy self.old) }
     {
@@ -30,14 +30,14 @@ impl HeardColumn {
     }
 }
 
-/// Whether an arc of that bulge is a tie.
+/// Returns whether an arc with this bulge is a tie.
 fn bulges_as_tie(bulge: i32) -> bool
     ensures { result ≡ bulges_as_tie bulge }
 {
     bulge == 400 || bulge == -400
 }
 
-/// Notes a glyph in the column at its anchor.
+/// Adds a glyph to the column at its anchor.
 fn put_note(
     columns: &mut Row<HeardColumn>,
     places: &[i64],
@@ -55,7 +55,7 @@ fn put_note(
     }
 }
 
-/// Notes a tie in the column at which it ends, by the height of its head.
+/// Adds a tie to the column at which it ends, by the height of its head.
 fn put_tie(columns: &mut Row<HeardColumn>, places: &[i64], x: i64, dy: i64) -> Result<(), Memory>
     requires rise { IsStrictlySortedBy int_cmp places.now }
     requires all { length columns.old ≡ length places.now }
@@ -67,7 +67,7 @@ fn put_tie(columns: &mut Row<HeardColumn>, places: &[i64], x: i64, dy: i64) -> R
     }
 }
 
-/// Notes what a mark tells.
+/// Adds what a mark means.
 #[tactic(auto, using(crate::proofs::FillingLaws::slur_told, crate::proofs::FillingLaws::words_told, //
 crate::proofs::FillingLaws::stem_told, crate::proofs::FillingLaws::beam_told))]
 fn put_mark(columns: &mut Row<HeardColumn>, places: &[i64], mark: &PageMark) -> Result<(), Memory>
@@ -92,14 +92,14 @@ fn put_mark(columns: &mut Row<HeardColumn>, places: &[i64], mark: &PageMark) -> 
     }
 }
 
-/// The height of the head at which a tie ends: the tie ends its bulge away.
+/// Returns the height of the head at which a tie ends: the tie ends its bulge away from the head.
 fn height_of_end(to: i32, bulge: i32) -> i64
     ensures { result ≡ to -ℤ bulge }
 {
     i64::from(to) - i64::from(bulge)
 }
 
-/// A column in which nothing stands.
+/// Returns an empty column.
 fn empty_column(alloc: Global, leads: bool) -> HeardColumn
     ensures { result ≡ record { leads = leads; notes = []; ties = [] } }
 {
@@ -110,7 +110,7 @@ fn empty_column(alloc: Global, leads: bool) -> HeardColumn
     }
 }
 
-/// Columns in which nothing stands.
+/// Returns empty columns.
 fn empty_columns(alloc: Global, places: &[i64]) -> Result<Row<HeardColumn>, Memory>
     ensures { IfOk result (λ r. r ≡ heard_columns_from true [] places.now) }
 {
@@ -123,7 +123,7 @@ fn empty_columns(alloc: Global, places: &[i64]) -> Result<Row<HeardColumn>, Memo
     Ok(out)
 }
 
-/// The columns of a staff of these marks, at places that rise.
+/// Returns the columns of a staff with these marks, at places that rise.
 #[tactic(auto, using(crate::proofs::FillingLaws::columns_length))]
 pub fn fill(alloc: Global, places: &[i64], marks: &[PageMark]) -> Result<Row<HeardColumn>, Memory>
     requires { IsStrictlySortedBy int_cmp places.now }

@@ -1,4 +1,4 @@
-//! A staff, heard column by column.
+//! Hears a staff column by column.
 
 ghost use Rattle.std.specs.Prelude.{◌≡◌, ◌++◌, OnOk};
 ghost use Rattle.ps_heard.specs.Ear.{hear_one, hear_from, column_opened, column_closed, hear_column, hear_columns};
@@ -52,7 +52,7 @@ fn hear_all(
     Ok(())
 }
 
-/// Takes the clef and the key of a column.
+/// Applies the clef and the key of a column.
 fn open_column(alloc: Global, ear: &mut Listener, col: &HeardColumn) -> Result<(), Memory>
     ensures { OnOk result (ear.new ≡ column_opened ear.old col.now) }
 {
@@ -75,7 +75,7 @@ fn put_heads(out: &mut Row<Heard>, heads: &[Heard]) -> Result<(), Memory>
     Ok(())
 }
 
-/// Puts the heads of a column behind those before it.
+/// Appends the heads of a column to those before it.
 fn close_column(alloc: Global, ear: &mut Listener) -> Result<(), Memory>
     ensures { OnOk result (ear.new ≡ column_closed ear.old) }
 {
@@ -102,7 +102,7 @@ fn hear_column(
     close_column(alloc, ear)
 }
 
-/// Hears columns of a staff, from the left.
+/// Hears the columns of a staff, from the left.
 pub fn hear_columns(
     alloc: Global,
     spread: Spread,
@@ -117,7 +117,7 @@ pub fn hear_columns(
     Ok(())
 }
 
-/// What a listener knows at first.
+/// Returns what a listener knows at first.
 pub fn fresh(alloc: Global) -> Listener
     ensures { result ≡ fresh }
 {

@@ -10,7 +10,7 @@ use crate::pitches::pitch_at;
 use mus_pitch::in_force;
 use mus_units::{Alter, Clef, Head, Key, Pitch, Spread};
 
-/// The first sign at a height.
+/// Returns the first accidental at a height.
 fn sign_of_glyph(dy: i32, notes: &[HeardGlyph]) -> Option<Alter>
     ensures { result ≡ sign_of_glyph dy notes.now }
 {
@@ -24,14 +24,14 @@ fn sign_of_glyph(dy: i32, notes: &[HeardGlyph]) -> Option<Alter>
     None
 }
 
-/// Whether a head is of that letter and octave.
+/// Returns whether a head has this letter and octave.
 fn is_same_pitch(pitch: Pitch, head: &Heard) -> bool
     ensures { result ≡ is_same_pitch pitch head.now }
 {
     head.pitch.letter == pitch.letter && head.pitch.octave == pitch.octave
 }
 
-/// The first head of that letter and octave.
+/// Returns the first head with this letter and octave.
 fn head_before(pitch: Pitch, before: &[Heard]) -> Option<Heard>
     ensures { result ≡ find (is_same_pitch pitch) before.now }
 {
@@ -43,7 +43,7 @@ fn head_before(pitch: Pitch, before: &[Heard]) -> Option<Heard>
     None
 }
 
-/// The head before a tie that ends at a head of that pitch, if one does.
+/// Returns the head before a tie that ends at a head of this pitch, if a tie ends there.
 fn tied_from(tied: bool, before: &[Heard], pitch: Pitch) -> Option<Heard>
     ensures { result ≡ tied_from tied before.now pitch }
 {
@@ -54,8 +54,8 @@ fn tied_from(tied: bool, before: &[Heard], pitch: Pitch) -> Option<Heard>
     }
 }
 
-/// The first of these that there is: the own sign, the alteration of the head before
-/// a tie, the last sign that reaches the pitch, its key's, natural.
+/// Returns the first of these that exists: the head's own accidental, the alteration of the head before its tie, the
+/// last accidental that reaches the pitch, the key's, natural.
 fn sounded(
     own: Option<Alter>,
     tied: Option<Heard>,
@@ -75,14 +75,14 @@ fn sounded(
     }
 }
 
-/// Whether a tie ends at that height.
+/// Returns whether a tie ends at this height.
 fn ends_tie(dy: i32, ties: &[i64]) -> bool
     ensures { result ≡ list_any (int_eq dy) ties.now }
 {
     ties.iter().any(|at| i64::from(dy) == *at)
 }
 
-/// A head at a height of a column: its pitch, and its sign.
+/// Returns the head at a height of a column: its pitch and its accidental.
 pub fn head_of_glyph(clef: Clef, dy: i32, notes: &[HeardGlyph]) -> Head
     ensures { result ≡ head_of_glyph clef dy notes.now }
 {
@@ -93,7 +93,7 @@ pub fn head_of_glyph(clef: Clef, dy: i32, notes: &[HeardGlyph]) -> Head
     }
 }
 
-/// How a head at a height of a column sounds.
+/// Returns how a head at a height of a column sounds.
 pub fn heard_of_glyph(spread: Spread, col: &HeardColumn, ear: &Listener, dy: i32) -> Heard
     ensures { result ≡ heard_of_glyph spread col.now ear.now.clef ear.now.key.signs ear.now.before ear.now.said dy }
 {

@@ -17,7 +17,7 @@ fn clef_or(clef: Clef, role: Role) -> Clef
     }
 }
 
-/// The last clef among what is noted, else the one before.
+/// Returns the last clef among these glyphs, or else the one before.
 pub fn clef_behind(clef: Clef, notes: &[HeardGlyph]) -> Clef
     ensures { result ≡ clef_behind clef notes.now }
 {
@@ -28,7 +28,7 @@ pub fn clef_behind(clef: Clef, notes: &[HeardGlyph]) -> Clef
     last
 }
 
-/// The signs of a column as entries of a key.
+/// Returns the accidentals of a column as entries of a key.
 pub fn entries(alloc: Global, clef: Clef, notes: &[HeardGlyph]) -> Result<Row<Sign>, Memory>
     ensures { IfOk result (λ r. r ≡ entries clef notes.now) }
 {
@@ -74,7 +74,7 @@ fn has_heads(notes: &[HeardGlyph]) -> bool
     notes.iter().any(|note| is_head(note.role))
 }
 
-/// Whether a column of these gives the key: it leads its system, or has signs and no heads.
+/// Returns whether a column with these glyphs sets the key: it leads its system, or has accidentals and no heads.
 pub fn gives_key(leads: bool, notes: &[HeardGlyph]) -> bool
     ensures { result ≡ gives_key leads notes.now }
 {

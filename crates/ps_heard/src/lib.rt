@@ -1,7 +1,8 @@
-//! What pages sound, read off their marks alone: of each staff of a tune the heads,
-//! each with its pitch and its alteration.
+//! Determines what pages sound from their marks alone: the heads of each staff of a tune, each with its pitch and its
+//! alteration.
 //!
-//! A staff is heard column by column from the left, in time n log n of the marks of its systems, all staves counted.
+//! A staff is heard column by column from the left, in time n log n, where n is the number of marks of its systems
+//! over all staves.
 #![tactic(auto)]
 
 pub mod anchors;

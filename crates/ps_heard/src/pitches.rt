@@ -4,7 +4,7 @@ ghost use Rattle.{mus_units.specs.Pitch.{bottom_of}, ps_heard.specs.Roles.{pitch
 use mus_pitch::pitch_of_steps;
 use mus_units::{Clef, Pitch};
 
-/// The steps from C0 to the bottom line.
+/// Returns the number of steps from C0 to the bottom line.
 fn bottom(clef: Clef) -> i32
     ensures value { result ≡ pos (bottom_of clef) }
     ensures few { result ≤ℤ pos 30 }
@@ -23,7 +23,7 @@ fn height(dy: i32) -> i32
     dy.div_euclid(250)
 }
 
-/// The pitch at a height of a staff.
+/// Returns the pitch at a height of a staff.
 #[tactic(auto, unfolding(crate::specs::Roles::pitch_at))]
 pub fn pitch_at(clef: Clef, dy: i32) -> Pitch
     ensures { result ≡ pitch_at clef dy }

@@ -10,7 +10,7 @@ fn c_clef(dy: i32) -> Clef
     if dy == 1500 { Clef::Tenor } else { Clef::Alto }
 }
 
-/// What a glyph tells at a height.
+/// Returns what a glyph at a height means to a listener.
 pub fn role_of(glyph: Glyph, dy: i32) -> Role
     ensures { result ≡ role_of glyph dy }
 {

@@ -48,7 +48,7 @@ fn hear_systems(
     Ok(())
 }
 
-/// The heads of staff `k` of a tune.
+/// Returns the heads of staff `k` of a tune.
 #[tactic(auto, using(crate::proofs::EarLaws::heard_law))]
 fn hear_staff(
     alloc: Global,
@@ -63,7 +63,7 @@ fn hear_staff(
     Ok(ear.heard)
 }
 
-/// What a tune sounds, staff after staff.
+/// Returns what a tune sounds, staff by staff.
 pub fn hear_tune(
     alloc: Global,
     spread: Spread,
@@ -78,10 +78,10 @@ pub fn hear_tune(
     Ok(out)
 }
 
-/// What a tune of a sheet sounds: a list for each staff of the largest of its systems,
-/// with its heads from the left, system after system, those of grace notes aside.
-/// `tune` is the tune's place among those of the sheet, from 0; where there is no such
-/// tune, there is no list. `spread` tells how far a sign reaches in its measure.
+/// Returns what a tune of a sheet sounds: a list for each staff of the tune's largest system, with the staff's heads
+/// from the left, system by system, without those of grace notes. `tune` is the tune's index among those of the
+/// sheet, from 0; if there is no such tune, there is no list. `spread` determines how far an accidental reaches in
+/// its measure.
 pub fn hear(alloc: Global, s: &Sheet, tune: u32, spread: Spread) -> Result<Row<Row<Heard>>, Memory>
     ensures value { IfOk result (λ r. r ≡ heard_in s.now tune spread) }
 {

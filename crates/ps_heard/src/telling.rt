@@ -15,7 +15,7 @@ use mus_units::{Alter, Letter, Memory, Row, Spread, Text};
 use ps_text::Sheet;
 use std::alloc::Global;
 
-/// A letter in capital.
+/// Returns the capital of a letter.
 fn letter_text(letter: Letter) -> &'static [u8]
     ensures { result.now ≡ letter_text letter }
 {
@@ -30,7 +30,7 @@ fn letter_text(letter: Letter) -> &'static [u8]
     }
 }
 
-/// The half steps of an alteration, up.
+/// Returns the half steps of an alteration, upwards.
 fn half_steps(alter: Alter) -> i32
     ensures { result ≡ half_steps alter }
 {
@@ -62,8 +62,8 @@ fn put_head(out: &mut Text, head: Heard) -> Result<(), Memory>
     out.append(b"\n")
 }
 
-/// Adds a line for each head: its letter, its alteration in half steps and its octave,
-/// as `F 1 5`. At an error a part of it was added.
+/// Adds a line per head: its letter, its alteration in half steps and its octave, as `F 1 5`. On an error, part of
+/// the text was added.
 pub fn put_heads(out: &mut Text, heads: &[Heard]) -> Result<(), Memory>
     ensures { OnOk result (out.new ≡ out.old ++ flat_map head_line heads.now) }
 {
@@ -116,9 +116,9 @@ fn put_tune(
     put_staves(out, staves.as_slice())
 }
 
-/// Adds the text of what a sheet sounds: for each tune a line `tune` and its ordinal, for each of its
-/// staves, from 0, a line `staff` and its place, and for each head a line with its letter, its
-/// alteration in half steps and its octave, as `F 1 5`. At an error a part of it was added.
+/// Adds the text of what a sheet sounds: for each tune a line `tune` and its ordinal; for each of its staves, from 0,
+/// a line `staff` and its number; and for each head a line with its letter, its alteration in half steps and its
+/// octave, as `F 1 5`. On an error, part of the text was added.
 pub fn put_heard(alloc: Global, out: &mut Text, s: &Sheet, spread: Spread) -> Result<(), Memory>
     ensures { OnOk result (out.new ≡ out.old ++ heard_text spread s.now) }
 {

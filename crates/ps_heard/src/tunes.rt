@@ -8,7 +8,7 @@ use ps_text::{Item, Sheet, Staff};
 use std::alloc::Global;
 use std::marker::Model;
 
-/// An item of a sheet, where it stands.
+/// A borrowed item of a sheet.
 #[derive(Drop)]
 pub struct BorrowedItem<'a> {
     pub item: &'a Item,
@@ -22,7 +22,7 @@ impl<'a> Model for BorrowedItem<'a> {
     ghost view = { λ s. s.item.now };
 }
 
-/// The staves of a system, where they stand.
+/// The borrowed staves of a system.
 #[derive(Drop)]
 pub struct BorrowedStaves<'a> {
     pub staves: &'a [Staff],
@@ -53,7 +53,7 @@ fn put_items<'a>(out: &mut Row<BorrowedItem<'a>>, items: &'a [Item]) -> Result<(
     Ok(())
 }
 
-/// All items of a sheet, page after page.
+/// Returns all items of a sheet, page by page.
 fn items_of<'a>(alloc: Global, s: &'a Sheet) -> Result<Row<BorrowedItem<'a>>, Memory>
     ensures { IfOk result (λ r. r ≡ items_of s.now) }
 {
@@ -64,7 +64,7 @@ fn items_of<'a>(alloc: Global, s: &'a Sheet) -> Result<Row<BorrowedItem<'a>>, Me
     Ok(out)
 }
 
-/// The systems before the next tune.
+/// Returns the systems before the next tune.
 fn systems_till<'a>(
     alloc: Global,
     items: &[BorrowedItem<'a>],
@@ -84,7 +84,7 @@ fn systems_till<'a>(
     Ok(out)
 }
 
-/// Adds a tune whose items these are.
+/// Adds the tune that has these items.
 fn put_part<'a>(
     alloc: Global,
     out: &mut Row<SheetTune<'a>>,
@@ -97,7 +97,7 @@ fn put_part<'a>(
     out.push(SheetTune { ordinal, systems })
 }
 
-/// The tunes among items, in order.
+/// Returns the tunes among items, in order.
 fn tunes_among<'a>(alloc: Global, items: &[BorrowedItem<'a>]) -> Result<Row<SheetTune<'a>>, Memory>
     ensures { IfOk result (λ r. r ≡ tunes_of items.now) }
 {
@@ -110,7 +110,7 @@ fn tunes_among<'a>(alloc: Global, items: &[BorrowedItem<'a>]) -> Result<Row<Shee
     Ok(out)
 }
 
-/// The tunes of a sheet, in order.
+/// Returns the tunes of a sheet, in order.
 pub fn tunes_of<'a>(alloc: Global, s: &'a Sheet) -> Result<Row<SheetTune<'a>>, Memory>
     ensures { IfOk result (λ r. r ≡ tunes_of (items_of s.now)) }
 {
@@ -118,7 +118,7 @@ pub fn tunes_of<'a>(alloc: Global, s: &'a Sheet) -> Result<Row<SheetTune<'a>>, M
     tunes_among(alloc, items.as_slice())
 }
 
-/// How many staves the largest of some systems has.
+/// Returns the number of staves of the largest of these systems.
 pub fn most_staves(systems: &[BorrowedStaves<'_>]) -> usize
     ensures { result ≡ most_staves systems.now }
 {
