@@ -1,4 +1,4 @@
--- What operators do, told step by step.
+-- What operators do, step by step.
 use Rattle.std.proofs.Common.{◌≡◌, ℤ, Bool, true, false, ◌&&◌, List, [], ◌∷◌, ◌++◌, refl, sym, subst, ◌∙◌, ap}
 use Rattle.std.proofs.Common.{FitsSigned, w64, to_z, of_z}
 use Rattle.std.proofs.lemmas.Int.{to_z-of_z}
@@ -44,7 +44,7 @@ six_near a b c d x y e f g =
     near_parts (a ∷ b ∷ []) (c ∷ d ∷ x ∷ y ∷ []) ∙ ap (λ t. t && all_near (c ∷ d ∷ x ∷ y ∷ [])) e
     ∙ near_parts (c ∷ d ∷ []) (x ∷ y ∷ []) ∙ ap (λ t. t && all_near (x ∷ y ∷ [])) f ∙ g
 
--- and none are where two aren't
+-- and the numbers aren't all in range if two of them aren't
 first_far : (a b c d x y : ℤ) → all_near (a ∷ b ∷ []) ≡ false → all_near (a ∷ b ∷ c ∷ d ∷ x ∷ y ∷ []) ≡ false
 first_far a b c d x y e = near_parts (a ∷ b ∷ []) (c ∷ d ∷ x ∷ y ∷ []) ∙ ap (λ t. t && all_near (c ∷ d ∷ x ∷ y ∷ [])) e
 
@@ -90,7 +90,7 @@ curve_far a b c d x y m on e =
     (across m.now a ∷ above m.now b ∷ across m.now c ∷ above m.now d ∷ across m.now x ∷ above m.now y ∷ [])
     (add_seg piece m) e
 
--- a point that was passed as a machine's numbers
+-- a point as passed in the machine's numbers
 pub point_passed : (g : Graphics) (x y : ℤ) (e : Stop)
     → FitsSigned w64 x → FitsSigned w64 y
     → IsPoint g (to_z w64 (of_z w64 x)) (to_z w64 (of_z w64 y)) (Err e)
@@ -99,7 +99,7 @@ point_passed g x y e across above h =
     subst (λ z. IsPoint g x z (Err e)) (to_z-of_z w64 y above)
     (subst (λ z. IsPoint g z (to_z w64 (of_z w64 y)) (Err e)) (to_z-of_z w64 x across) h)
 
--- a curve stops where one of its points is past the range
+-- a curve stops if one of its points is out of range
 pub first_stops : (a b c d x y : ℤ) (m k : State) (e : Stop)
     → ((o : Outcome) → at_point m.now.path o ≡ o) → IsPoint m.now a b (Err e)
     → DidOrStopped (curveto (a ∷ b ∷ c ∷ d ∷ x ∷ y ∷ []) m) (Err e) k

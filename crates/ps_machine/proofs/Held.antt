@@ -1,4 +1,4 @@
--- A piece more, for the state that is drawn with and for those that are saved.
+-- One more piece, for the current state and for the saved ones.
 use Rattle.std.proofs.Common.{◌≡◌, ◌≤◌, ◌∙◌, refl, sym, ap, subst, List, [], ◌∷◌, ◌++◌, length, take, drop, reverse}
 use Rattle.std.proofs.Common.{Some, ℕ, arith, length-append}
 use Rattle.std.proofs.lemmas.List.{drop-append-le, take-append-le, reverse-append}

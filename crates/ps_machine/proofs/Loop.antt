@@ -13,7 +13,7 @@ use Rattle.ps_tokens.specs.Programs.{AreTokensOf, all_read, fault_read, token_re
 use Rattle.ps_machine.specs.declared.run.FetchedToken.{FetchedToken}
 use Rattle.ps_machine.specs.Nexts.{machine_token, IsTaken, of_calls, of_text, IsFirstToken, IsNext}
 
--- the run has come so far: its calls, its state, and the tokens of the text that are left
+-- how far the run has come: its calls, its state, and the tokens of the text that are left
 pub record Come (text : List ℕ) (budget count : ℕ) (calls : List SimpleToken) (m : State) (left : List MachineToken)
     (fault : Option Cause) : Type 0 where
   pub rest : List ℕ
@@ -31,7 +31,7 @@ come_first text budget calls m left fault e f r = record {
   read = r;
 }
 
--- the next token, and the text behind it
+-- the next token, and the text after it
 record Coming (p : RunState) (t : MachineToken) (calls : List SimpleToken) (m : State) (left : List MachineToken)
     (fault : Option Cause) : Type 0 where
   rest : List ℕ
@@ -127,7 +127,7 @@ module _ (text : List ℕ) (budget count : ℕ) (calls : List SimpleToken) (m : 
           halted = stuck cause l (record { token = t; rest = now calls2 m x.rest; next = x.next; halts = e });
         }
 
--- where no call is left, the first token of the text comes next
+-- if no call is left, the first token of the text comes next
 pub next_of_text : (calls left : List SimpleToken) (text : List MachineToken) (n : FetchedToken)
     → calls ≡ [] → left ≡ [] → IsFirstToken text n → IsNext calls text n left
 next_of_text calls left text FetchedToken.End e g h = (e, h)

@@ -1,4 +1,4 @@
--- Names, after one of them was given a procedure.
+-- Names, after one of them was defined.
 use Rattle.std.proofs.Common.{◌≡◌, ℕ, List, Some}
 use Rattle.std.proofs.Math.Path.{fun_ext}
 use Rattle.std.proofs.lemmas.Map.Text.{btree_map_updates_str}

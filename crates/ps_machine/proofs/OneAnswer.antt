@@ -1,4 +1,4 @@
--- A run has one answer, since a text begins with one token at most.
+-- A run has one result, since a text begins with at most one token.
 use Rattle.std.proofs.Common.{◌≡◌, ◌⊎◌, inl, inr, ℕ, suc, ◌+◌, ◌<◌, ◌≤◌, List, [], ◌∷◌, refl, sym, subst, ◌∙◌, ap}
 use Rattle.std.proofs.Common.{arith}
 use Rattle.std.proofs.Math.Nat.{zero-add, suc-add}
@@ -13,12 +13,12 @@ use Rattle.ps_steps.specs.State.{State, first_state}
 use Rattle.ps_steps.specs.Operators.{Outcome, went, halted, executed}
 use Rattle.{ps_tokens.specs.OneToken.{BeginsInOneWay}, ps_machine.specs.OneAnswer.{HasOneAnswer}}
 
--- the token and the place behind it
+-- the token and the state after it
 record SameNext (t u : MachineToken) (r q : RunState) : Type 0 where
   token : t ≡ u
   place : r ≡ q
 
--- so many steps are left to a place
+-- this many steps are left to a state
 record Left (n k : ℕ) (r q : RunState) : Type 0 where
   more : ℕ
   sum : n ≡ k + more
@@ -91,14 +91,14 @@ module _ (alone : BeginsInOneWay) where
       differ : (o : Outcome) (b : List SimpleToken) (m : State) (cause : Cause) → o ≡ went b m → o ≡ halted cause → ⊥
       differ o b m cause e f = cc
 
-  -- and where they are, the run doesn't halt
+  -- and if they are, the run doesn't halt
   no_halt : (text : List ℕ) (budget token : ℕ) (cause : Cause) (ps : List PagePaint)
       → Paints text budget ps → Halts text budget token cause → ⊥
   no_halt text budget token cause ps a h =
       let l = follows a.count token (state_before first_state text) a.last h.last a.run a.ended h.run in
       cannot_go budget token a.count l.more h.last a.last cause h.halted l.steps a.ended l.sum a.within
 
-  -- of two runs from one place one goes on where the other stands
+  -- of two runs from one state, one continues from where the other is
   meets : (n k : ℕ) (p q r : RunState) → TakesSteps n p q → TakesSteps k p r → Left n k r q ⊎ Left k n q r
   meets n _ _ q _ s (here p) = inl (record { more = n; sum = sym (zero-add n); steps = s })
   meets _ k _ _ r (here p) t = inr (record { more = k; sum = sym (zero-add k); steps = t })

@@ -1,4 +1,4 @@
--- A text that a sheet spells gives what the sheet paints.
+-- The run of a text that a sheet spells paints what the sheet paints.
 use Rattle.std.{proofs.Common.{ℕ, List}, specs.Prelude.{Result, Ok, Err, IfOk, IfErr}}
 use Rattle.ps_steps.specs.declared.halt.MachineError.{MachineError}
 use Rattle.ps_steps.specs.declared.paint.PagePaint.{PagePaint}

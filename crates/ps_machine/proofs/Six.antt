@@ -13,7 +13,7 @@ has_so_many zero st l = refl
 has_so_many (suc n) [] l = absurd (omega arith)
 has_so_many (suc n) (v ∷ st) l = has_so_many n st (omega arith)
 
--- where there are six values, they are picked
+-- if there are six values, they are picked
 picked : (st : List Operand) (m : State) (f : List ℤ → State → Outcome)
     → 6 ≤ length st → with_six st m f ≡ pick [] 6 st m f
 picked st m f l =
@@ -41,7 +41,7 @@ first_stops st mid more left new p q (Stop.Halted cause) l a b h =
     ∙ (ap (λ s. pick [] 6 s m f) a ∙ (ap (λ s. pick (p.0 ∷ p.1 ∷ []) 4 s m f) b ∙ h (q.0 ∷ q.1 ∷ p.0 ∷ p.1 ∷ []) 0 m f))
 first_stops st mid more left new p q Stop.Memory l a b h = h
 
--- and what halts there halts the operator
+-- and what halts the pick halts the operator
 pub six_stops : (st left : List Operand) (m k : State) (e : Stop)
     → IsSix st (Err e) left → DidOrStopped (with_six st m curveto) (Err e) k
 six_stops st left m k (Stop.Halted cause) h = h m curveto

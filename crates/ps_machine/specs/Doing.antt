@@ -1,4 +1,4 @@
--- Between the operators of the machine and the code: the code's state, and what its parts do.
+-- Links the operators of the machine to the code: the code's state, and what its parts do.
 use Rattle.std.specs.Prelude.{◌≡◌, ℕ, suc, ℤ, ◌*ℤ◌, true, false, List, [], ◌∷◌, ◌++◌, reverse, Result, Ok, Err}
 use Rattle.ps_steps.specs.declared.halt.Cause.{Cause}
 use Rattle.ps_steps.specs.declared.paint.Seg.{Seg}
@@ -26,7 +26,7 @@ state_of m = record {
   pages = m.pages;
 }
 
--- what a token did, and what the run says where it stops
+-- what a token did, and why the run stops, if it does
 abbrev pub DidOrStopped : Outcome → Result (Unit {0}) Stop → State → Type 0
 DidOrStopped o (Ok x) m = o ≡ went [] m
 DidOrStopped o (Err (Stop.Halted cause)) m = o ≡ halted cause
@@ -79,7 +79,7 @@ IsFactors st (Ok c) rest = (m : State) → scale st m ≡ scaled (m.now.scale *�
 IsFactors st (Err (Stop.Halted cause)) rest = (m : State) → scale st m ≡ halted cause
 IsFactors st (Err Stop.Memory) rest = Unit {0}
 
--- a token was executed: its procedure, if it called one, stands before what was to be executed
+-- a token was executed: its procedure, if it called one, comes before what was to be executed
 abbrev pub IsExecuted : Outcome → List SimpleToken → Result (Unit {0}) Stop → State → List SimpleToken → Type 0
 IsExecuted o old (Ok x) m pending = (body : List SimpleToken) × (o ≡ went body m) × (pending ≡ body ++ old)
 IsExecuted o old (Err (Stop.Halted cause)) m pending = o ≡ halted cause

@@ -1,4 +1,4 @@
--- The graphics state that is drawn with, and those that are saved.
+-- The current graphics state, and the saved ones.
 use Rattle.{std.specs.Prelude.{List}, ps_steps.specs.declared.graphics.Graphics.{Graphics}}
 
 pub record GraphicsStack : Type 0 where

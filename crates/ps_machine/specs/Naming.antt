@@ -1,4 +1,4 @@
--- The procedures that names were given, as the code keeps them: a map from names to tokens.
+-- The procedures that names are defined as, as the code stores them: a map from names to tokens.
 use Rattle.std.specs.BTreeMap.{get_by}
 use Rattle.std.specs.Cmp.Lexicographic.{slice_cmp}
 use Rattle.std.specs.Ordering.{nat_cmp}

@@ -1,4 +1,4 @@
--- What the code says of the token that comes next: the first of the calls, else the first of the text.
+-- What the code says about the next token: the first of the calls, or else the first of the text.
 use Rattle.std.specs.Prelude.{◌≡◌, List, [], ◌∷◌}
 use Rattle.ps_steps.specs.declared.token.SimpleToken.{SimpleToken}
 use Rattle.ps_steps.specs.declared.token.MachineToken.{MachineToken}

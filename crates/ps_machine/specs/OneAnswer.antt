@@ -1,4 +1,4 @@
--- A run has one answer: it paints one list of pages, or it halts at one token for one cause.
+-- A run has one result: it paints one list of pages, or it halts at one token for one cause.
 use Rattle.std.specs.Prelude.{◌≡◌, ℕ, List}
 use Rattle.ps_steps.specs.{declared.halt.Cause.Cause, declared.paint.PagePaint.PagePaint, Steps.Paints, Steps.Halts}
 

@@ -1,6 +1,6 @@
--- How the code keeps graphics states. The pieces of all paths stand in one list. The path of the state that is drawn
--- with is what stands there from its first piece on. A saved state has of the pieces those that stood there when it was
--- saved, and so have those that were saved before it.
+-- How the code stores graphics states. The pieces of all paths are in one list. The path of the current state is the
+-- part of the list from the path's first piece on. A saved state has the pieces that were in the list when it was
+-- saved, and so do the states saved before it.
 use Rattle.std.specs.Prelude.{◌≡◌, ◌≤◌, ⊤, List, [], ◌∷◌, length, take, drop, reverse, Some}
 use Rattle.ps_steps.specs.declared.graphics.Graphics.{Graphics}
 use Rattle.ps_steps.specs.declared.paint.Seg.{Seg}
@@ -32,7 +32,7 @@ AreHeld pieces [] = ⊤
 AreHeld pieces (s ∷ saved) =
     (s.count ≤ length pieces) × IsHeld (take s.count pieces) s.pen × AreHeld (take s.count pieces) saved
 
--- a state once a piece was added to its path: it knows the new points
+-- a state after a piece was added to its path: it knows the new points
 abbrev pub followed : PenState → Seg → PenState
 followed pen (Seg.Move x y) = record pen { start = (x, y); end = Some (x, y) }
 followed pen (Seg.Line x y) = record pen { end = Some (x, y) }

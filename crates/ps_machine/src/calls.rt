@@ -7,8 +7,8 @@ use ps_steps::{Procedure, SimpleToken};
 use std::alloc::Global;
 use std::marker::Model;
 
-/// What is left to execute of procedures, the innermost last. Contracts see the
-/// tokens in the order in which they are executed.
+/// The tokens of procedures that are still to be executed, the innermost procedure last. Contracts see the tokens in
+/// the order of execution.
 #[derive(Drop)]
 pub struct Calls<'a> {
     frames: Vec<Procedure<'a>>,
@@ -34,7 +34,7 @@ impl<'a> Calls<'a> {
         }
     }
 
-    /// Calls a procedure: its tokens stand before what is left.
+    /// Calls a procedure: its tokens come before what is left.
     pub fn call(&mut self, body: &'a [SimpleToken]) -> Result<(), Memory>
         ensures { OnOk result (self.new ≡ body.now ++ self.old) }
     {
@@ -42,7 +42,7 @@ impl<'a> Calls<'a> {
         Ok(())
     }
 
-    /// Takes the first token that is left. A procedure of which nothing is left takes no place any more.
+    /// Takes the first token that is left. A procedure with no token left is removed.
     pub fn next(&mut self) -> Result<Option<&'a SimpleToken>, Memory>
         ensures { IfOk result
             (λ t. MatchOption t ((self.old ≡ []) × (self.new ≡ [])) (λ s. self.old ≡ s.now ∷ self.new)) }

@@ -1,4 +1,4 @@
-//! The graphics state with its path, and those that are saved.
+//! The graphics state with its path, and the saved states.
 
 ghost use Rattle.std.specs.Prelude.{◌≡◌, ◌++◌, ◌∷◌, [], IsTrue, IsFalse, OnOk, OnErr, IfOk};
 ghost use Rattle.{ps_steps.specs.{Points.current, State.first_graphics}, ps_machine.specs.Pens.{followed}};
@@ -8,9 +8,8 @@ use ps_steps::{Number, Seg};
 use std::alloc::Global;
 use std::marker::Model;
 
-/// A graphics state but for the pieces of its path: at which of all pieces the path
-/// begins, the point of its last Move and its current point; the scale, the origin,
-/// the size of the font and the width of lines.
+/// A graphics state without the pieces of its path: the index at which its path begins among all pieces, the point of
+/// its last Move and its current point; the scale, the origin, the font size and the line width.
 #[derive(Drop)]
 pub struct PenState {
     first: usize,
@@ -23,16 +22,16 @@ pub struct PenState {
     line: i64,
 }
 
-/// A graphics state that is saved, and how many pieces stood there.
+/// A saved graphics state, and the number of pieces when it was saved.
 #[derive(Drop)]
 pub struct Saved {
     pen: PenState,
     count: usize,
 }
 
-/// The graphics state, and those that are saved with the latest last. The pieces of all their paths
-/// stand in one list, so that saving a state copies none: a state that is saved has those that stood
-/// there, and no piece is taken away or changed while a state has it.
+/// The graphics state and the saved ones, with the latest last. The pieces of all their paths are in one list, so
+/// saving a state copies no piece: a saved state has the pieces of the time when it was saved, and no piece is
+/// removed or changed while a state has it.
 #[derive(Drop)]
 pub struct Canvas {
     pieces: Vec<Seg>,
@@ -54,7 +53,7 @@ impl Model for Canvas {
 }
 
 impl Canvas {
-    /// The first graphics state, and nothing saved.
+    /// Returns the initial graphics state, with nothing saved.
     pub fn new(alloc: Global) -> Canvas
         ensures { result ≡ record { now = first_graphics; saved = [] } }
     {
@@ -74,56 +73,56 @@ impl Canvas {
         }
     }
 
-    /// The scale.
+    /// Returns the scale.
     pub fn scale(&self) -> &Number
         ensures { result.now ≡ self.now.now.scale }
     {
         &self.pen.scale
     }
 
-    /// The abscissa of the origin.
+    /// Returns the abscissa of the origin.
     pub fn left(&self) -> i64
         ensures { result ≡ self.now.now.x }
     {
         self.pen.x
     }
 
-    /// The ordinate of the origin.
+    /// Returns the ordinate of the origin.
     pub fn bottom(&self) -> i64
         ensures { result ≡ self.now.now.y }
     {
         self.pen.y
     }
 
-    /// The size of the font.
+    /// Returns the font size.
     pub fn font(&self) -> i64
         ensures { result ≡ self.now.now.font }
     {
         self.pen.font
     }
 
-    /// The width of lines.
+    /// Returns the line width.
     pub fn line(&self) -> i64
         ensures { result ≡ self.now.now.line }
     {
         self.pen.line
     }
 
-    /// The current point; there is one exactly where the path isn't empty.
+    /// Returns the current point; there is one exactly when the path isn't empty.
     pub fn current(&self) -> Option<(i64, i64)>
         ensures { result ≡ current self.now.now.path }
     {
         self.pen.end
     }
 
-    /// Makes this the scale.
+    /// Sets the scale.
     pub fn set_scale(&mut self, scale: Number)
         ensures { self.new ≡ record self.old { now = record self.old.now { scale = scale } } }
     {
         self.pen.scale = scale;
     }
 
-    /// Makes this the origin.
+    /// Sets the origin.
     pub fn set_origin(&mut self, x: i64, y: i64)
         ensures { self.new ≡ record self.old { now = record self.old.now { x = x; y = y } } }
     {
@@ -131,21 +130,21 @@ impl Canvas {
         self.pen.y = y;
     }
 
-    /// Makes this the size of the font.
+    /// Sets the font size.
     pub fn set_font(&mut self, size: i64)
         ensures { self.new ≡ record self.old { now = record self.old.now { font = size } } }
     {
         self.pen.font = size;
     }
 
-    /// Makes this the width of lines.
+    /// Sets the line width.
     pub fn set_line(&mut self, width: i64)
         ensures { self.new ≡ record self.old { now = record self.old.now { line = width } } }
     {
         self.pen.line = width;
     }
 
-    /// Adds a piece at the end of the path; at an error all is as it was.
+    /// Adds a piece at the end of the path; on an error nothing changes.
     pub fn push(&mut self, piece: Seg) -> Result<(), Memory>
         ensures ok { OnOk result
             (self.new ≡ record self.old { now = record self.old.now { path = self.old.now.path ++ piece ∷ [] } }) }
@@ -165,7 +164,7 @@ impl Canvas {
         self.pen.end = None;
     }
 
-    /// The pieces of the path, which is emptied.
+    /// Returns the pieces of the path and empties it.
     pub fn take_path(&mut self, alloc: Global) -> Result<Row<Seg>, Memory>
         ensures path { IfOk result (λ path. path ≡ self.old.now.path) }
         ensures rest { OnOk result (self.new ≡ record self.old { now = record self.old.now { path = [] } }) }
@@ -175,7 +174,7 @@ impl Canvas {
         Ok(path)
     }
 
-    /// Saves the graphics state; at an error all is as it was.
+    /// Saves the graphics state; on an error nothing changes.
     pub fn save(&mut self) -> Result<(), Memory>
         ensures { OnOk result (self.new ≡ record self.old { saved = self.old.now ∷ self.old.saved }) }
     {
@@ -185,7 +184,7 @@ impl Canvas {
         Ok(())
     }
 
-    /// Brings back the graphics state that was saved last; `false` where none is.
+    /// Restores the graphics state that was saved last; returns `false` if none is saved.
     pub fn restore(&mut self) -> bool
         ensures some { IsTrue result → self.old.saved ≡ self.new.now ∷ self.new.saved }
         ensures none { IsFalse result → self.old.saved ≡ [] }
@@ -202,8 +201,8 @@ impl Canvas {
 }
 
 impl PenState {
-    /// Goes on with a piece that was added to the path: to its end, or after a Close to
-    /// the point of the last Move.
+    /// Moves the current point after a piece was added to the path: to the end of the piece, or after a Close to the
+    /// point of the last Move.
     fn follow(&mut self, piece: Seg)
         ensures { self.new ≡ followed self.old piece }
     {
@@ -218,7 +217,7 @@ impl PenState {
         }
     }
 
-    /// The same once more.
+    /// Returns a copy.
     fn same(&self) -> PenState
         ensures { result ≡ self.now }
     {

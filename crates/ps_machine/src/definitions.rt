@@ -8,14 +8,14 @@ use ps_steps::{Procedure, SimpleToken};
 use std::alloc::Global;
 use std::collections::BTreeMap;
 
-/// The procedures that names were given.
+/// The procedures that names are defined as.
 #[derive(Drop)]
 pub struct Definitions<'a> {
     pub bodies: BTreeMap<&'a [u8], Procedure<'a>>,
 }
 
 impl<'a> Definitions<'a> {
-    /// No name has one.
+    /// Returns the definitions that define no name.
     pub fn new(alloc: Global) -> Definitions<'a>
         ensures { names_of result ≡ no_names }
     {
@@ -24,7 +24,7 @@ impl<'a> Definitions<'a> {
         }
     }
 
-    /// Gives a name a procedure, in place of the one that it had.
+    /// Defines a name as a procedure, replacing an earlier definition.
     pub fn define(&mut self, name: &'a [u8], body: Procedure<'a>) -> Result<(), Memory>
         ensures { OnOk result (names_of self.new ≡ defined name.now body.entry (names_of self.old)) }
     {
@@ -32,7 +32,7 @@ impl<'a> Definitions<'a> {
         Ok(())
     }
 
-    /// The procedure of a name, if it was given one.
+    /// Returns the procedure that a name is defined as, if there is one.
     pub fn body_of(&self, name: &'a [u8]) -> Option<&'a [SimpleToken]>
         ensures { MatchOption result (names_of self.now name.now ≡ None)
             (λ body. names_of self.now name.now ≡ Some body.now) }

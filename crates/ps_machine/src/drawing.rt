@@ -23,6 +23,7 @@ fn point(canvas: &Canvas, x: i64, y: i64) -> Result<(i64, i64), Stop>
     Ok((across, above))
 }
 
+/// Executes `moveto`: adds a point to begin at.
 pub fn moveto(m: &mut Machine) -> Result<(), Stop>
     ensures { DidOrStopped (operated moveto_op (state_of m.old)) result (state_of m.new) }
 {
@@ -32,6 +33,7 @@ pub fn moveto(m: &mut Machine) -> Result<(), Stop>
     Ok(())
 }
 
+/// Executes `translate`: moves the origin.
 pub fn translate(m: &mut Machine) -> Result<(), Stop>
     ensures { DidOrStopped (operated translate_op (state_of m.old)) result (state_of m.new) }
 {
@@ -41,6 +43,7 @@ pub fn translate(m: &mut Machine) -> Result<(), Stop>
     Ok(())
 }
 
+/// Executes `grestore`: restores the graphics state that was saved last.
 pub fn grestore(m: &mut Machine) -> Result<(), Stop>
     ensures { DidOrStopped (operated grestore_op (state_of m.old)) result (state_of m.new) }
 {
@@ -51,6 +54,7 @@ pub fn grestore(m: &mut Machine) -> Result<(), Stop>
     }
 }
 
+/// Executes `gsave`: saves the graphics state.
 pub fn gsave(m: &mut Machine) -> Result<(), Stop>
     ensures { DidOrStopped (operated gsave_op (state_of m.old)) result (state_of m.new) }
 {
@@ -76,6 +80,7 @@ fn add_line(m: &mut Machine, x: i64, y: i64) -> Result<(), Stop>
     Ok(())
 }
 
+/// Executes `lineto`: adds a line to a point.
 pub fn lineto(m: &mut Machine) -> Result<(), Stop>
     ensures { DidOrStopped (operated lineto_op (state_of m.old)) result (state_of m.new) }
 {
@@ -83,6 +88,7 @@ pub fn lineto(m: &mut Machine) -> Result<(), Stop>
     add_line(m, x, y)
 }
 
+/// Executes `closepath`: adds a Close if there is a current point.
 pub fn closepath(m: &mut Machine) -> Result<(), Stop>
     ensures { DidOrStopped (operated closepath_op (state_of m.old)) result (state_of m.new) }
 {
@@ -92,6 +98,7 @@ pub fn closepath(m: &mut Machine) -> Result<(), Stop>
     Ok(())
 }
 
+/// Executes `fill`: paints the path filled, and empties it.
 pub fn fill(alloc: Global, m: &mut Machine) -> Result<(), Stop>
     ensures { DidOrStopped (operated fill_op (state_of m.old)) result (state_of m.new) }
 {
@@ -100,6 +107,7 @@ pub fn fill(alloc: Global, m: &mut Machine) -> Result<(), Stop>
     Ok(())
 }
 
+/// Executes `stroke`: paints the path stroked, and empties it.
 pub fn stroke(alloc: Global, m: &mut Machine) -> Result<(), Stop>
     ensures { DidOrStopped (operated stroke_op (state_of m.old)) result (state_of m.new) }
 {
@@ -122,6 +130,7 @@ fn add_curve(m: &mut Machine, bend: &Bend) -> Result<(), Stop>
     Ok(())
 }
 
+/// Executes `curveto`: adds a curve to a point.
 pub fn curveto(m: &mut Machine) -> Result<(), Stop>
     ensures { DidOrStopped (operated curveto_op (state_of m.old)) result (state_of m.new) }
 {

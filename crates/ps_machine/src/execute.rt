@@ -1,4 +1,4 @@
-//! Tokens, executed.
+//! Executes tokens.
 
 ghost use Rattle.std.specs.Prelude.{◌≡◌};
 ghost use Rattle.ps_steps.specs.Operators.{executed, push};
@@ -20,7 +20,7 @@ fn push<'a>(m: &mut Machine<'a>, v: Operand<'a>) -> Result<(), Stop>
     Ok(())
 }
 
-/// Executes a name: its procedure is called, or else it is an operator.
+/// Executes a name: calls its procedure if it has one; otherwise the name is an operator.
 fn execute_name<'a>(
     alloc: Global,
     m: &mut Machine<'a>,
@@ -39,7 +39,7 @@ fn execute_name<'a>(
     }
 }
 
-/// A token that is to be executed: one that may stand in a procedure, or a procedure.
+/// A token to execute: one that may be in a procedure, or a procedure.
 #[derive(Drop)]
 pub enum Ready<'a> {
     Simple(&'a SimpleToken),

@@ -11,6 +11,7 @@ use mus_units::Row;
 use ps_steps::{Cause, Operand, PagePaint};
 use std::alloc::Global;
 
+/// Executes `setlinewidth`: sets the line width.
 pub fn setlinewidth(m: &mut Machine) -> Result<(), Stop>
     ensures { DidOrStopped (operated setlinewidth_op (state_of m.old)) result (state_of m.new) }
 {
@@ -24,6 +25,7 @@ pub fn setlinewidth(m: &mut Machine) -> Result<(), Stop>
     }
 }
 
+/// Executes `setfont`: sets the font size.
 pub fn setfont(m: &mut Machine) -> Result<(), Stop>
     ensures { DidOrStopped (operated setfont_op (state_of m.old)) result (state_of m.new) }
 {
@@ -37,6 +39,7 @@ pub fn setfont(m: &mut Machine) -> Result<(), Stop>
     }
 }
 
+/// Executes `showpage`: ends the page.
 pub fn showpage(alloc: Global, m: &mut Machine) -> Result<(), Stop>
     ensures { DidOrStopped (operated showpage_op (state_of m.old)) result (state_of m.new) }
 {
@@ -45,6 +48,7 @@ pub fn showpage(alloc: Global, m: &mut Machine) -> Result<(), Stop>
     Ok(())
 }
 
+/// Executes `def`: defines a name as a procedure.
 pub fn define(m: &mut Machine) -> Result<(), Stop>
     ensures { DidOrStopped (operated def_op (state_of m.old)) result (state_of m.new) }
 {
@@ -60,6 +64,7 @@ pub fn define(m: &mut Machine) -> Result<(), Stop>
     }
 }
 
+/// Executes `scalefont`: multiplies the size of a font.
 pub fn scalefont(m: &mut Machine) -> Result<(), Stop>
     ensures { DidOrStopped (operated scalefont_op (state_of m.old)) result (state_of m.new) }
 {
@@ -77,6 +82,7 @@ fn is_engraving_font(name: &[u8]) -> bool
     name == b"EngFont".as_slice()
 }
 
+/// Executes `findfont`: pushes the font that was made, at size 1.
 pub fn findfont(m: &mut Machine) -> Result<(), Stop>
     ensures { DidOrStopped (operated findfont_op (state_of m.old)) result (state_of m.new) }
 {

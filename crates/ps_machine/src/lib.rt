@@ -1,6 +1,5 @@
-//! A small machine that runs the bytes of pages, or any others, and tells what
-//! they paint: the tokens of a text, executed one after another on a stack, a
-//! path and a graphics state, at most as many as a budget allows.
+//! A small machine that runs the bytes of pages, or any others, and returns what they paint. It executes the tokens
+//! of a text one after another on a stack, a path and a graphics state, at most as many as a budget allows.
 #![tactic(auto)]
 
 pub mod calls;

@@ -12,7 +12,7 @@ fn times(a: i64, b: i64) -> i128
     i128::from(a) * i128::from(b)
 }
 
-/// A number that is within 2^60 of 0.
+/// Returns the number if it is within 2^60 of 0.
 fn narrow(z: i128) -> Option<i64>
     ensures value { MatchOption result (is_near z ≡ false) (λ n. n ≡ z) }
     ensures near { MatchOption result (true ≡ true) (λ n. is_near z ≡ true) }
@@ -24,7 +24,7 @@ fn narrow(z: i128) -> Option<i64>
     }
 }
 
-/// The product, or none where it is past 2^60 in size.
+/// Returns the product, or `None` if it exceeds 2^60 in size.
 pub fn product(a: i64, b: i64) -> Option<i64>
     ensures value { MatchOption result (is_near (a *ℤ b) ≡ false) (λ z. z ≡ a *ℤ b) }
     ensures near { MatchOption result (true ≡ true) (λ z. is_near (a *ℤ b) ≡ true) }
@@ -39,7 +39,7 @@ fn sum(a: i64, b: i128) -> Option<i64>
     narrow(i128::from(a).checked_add(b)?)
 }
 
-/// A coordinate, or none where it is past 2^60 in size.
+/// Returns a coordinate, or `None` if it exceeds 2^60 in size.
 pub fn coordinate(origin: i64, scale: &Number, v: i64) -> Option<i64>
     ensures value { MatchOption result (is_near (origin +ℤ (scale.now *ℤ v)) ≡ false)
         (λ z. z ≡ origin +ℤ (scale.now *ℤ v)) }
@@ -48,7 +48,7 @@ pub fn coordinate(origin: i64, scale: &Number, v: i64) -> Option<i64>
     sum(origin, times(scale.get(), v))
 }
 
-/// Takes two whole numbers off the stack, the second from the top.
+/// Pops two whole numbers, the second from the top.
 pub fn two(stack: &mut Vec<Operand>) -> Result<(i64, i64), Stop>
     ensures { IsTwo (reverse stack.old.items) result (reverse stack.new.items) }
 {
@@ -61,8 +61,7 @@ pub fn two(stack: &mut Vec<Operand>) -> Result<(i64, i64), Stop>
     }
 }
 
-/// Takes a whole number and a font off the stack, the number from the top:
-/// the size of the font, and the number.
+/// Pops a whole number from the top and then a font. Returns the size of the font and the number.
 pub fn font_and_number(stack: &mut Vec<Operand>) -> Result<(i64, i64), Stop>
     ensures { IsFontAndNumber (reverse stack.old.items) result (reverse stack.new.items) }
 {
@@ -75,7 +74,7 @@ pub fn font_and_number(stack: &mut Vec<Operand>) -> Result<(i64, i64), Stop>
     }
 }
 
-/// The points of a curve: two that draw it, and its end.
+/// The points of a curve: its two control points and its end.
 #[derive(Clone, Copy)]
 pub struct Bend {
     pub first: (i64, i64),
@@ -83,7 +82,7 @@ pub struct Bend {
     pub end: (i64, i64),
 }
 
-/// Takes two whole numbers off the stack where a curve has its operands.
+/// Pops two whole numbers that are operands of a curve.
 fn point_of_six(stack: &mut Vec<Operand>) -> Result<(i64, i64), Stop>
     ensures { IsPointOfSix (reverse stack.old.items) result (reverse stack.new.items) }
 {
@@ -93,7 +92,7 @@ fn point_of_six(stack: &mut Vec<Operand>) -> Result<(i64, i64), Stop>
     }
 }
 
-/// Takes six whole numbers off the stack, the last from the top.
+/// Pops six whole numbers, the last from the top.
 pub fn six(stack: &mut Vec<Operand>) -> Result<Bend, Stop>
     ensures { IsSix (reverse stack.old.items) result (reverse stack.new.items) }
 {

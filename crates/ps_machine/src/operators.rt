@@ -20,7 +20,7 @@ fn is(name: &[u8], other: &[u8]) -> bool
     other == name
 }
 
-/// Does what the operator of that name does.
+/// Does what the operator with this name does.
 pub fn operate(alloc: Global, m: &mut Machine, name: &[u8]) -> Result<(), Stop>
     ensures { DidOrStopped (operated_if (operator_named name.now) (state_of m.old)) result (state_of m.new) }
 {

@@ -19,7 +19,7 @@ use ps_steps::{Cause, MachineError, MachineToken, PagePaint};
 use ps_tokens::read_program;
 use std::alloc::Global;
 
-/// What comes next: a token, with the tokens of the text that are left behind it; or nothing.
+/// What comes next: a token, with the tokens of the text that are left after it; or nothing.
 #[derive(Drop)]
 pub enum FetchedToken<'a> {
     End,
@@ -39,7 +39,7 @@ fn start<'a>(alloc: Global) -> Machine<'a>
     }
 }
 
-/// The first token of the text that is left.
+/// Returns the first token of the text that is left.
 fn first_of<'a>(tokens: &'a [MachineToken]) -> FetchedToken<'a>
     ensures { IsFirstToken tokens.now result }
 {
@@ -55,7 +55,7 @@ fn first_of<'a>(tokens: &'a [MachineToken]) -> FetchedToken<'a>
     }
 }
 
-/// Takes the next token: of the calls, else of the text.
+/// Takes the next token, from the calls or else from the text.
 fn coming<'a>(calls: &mut Calls<'a>, tokens: &'a [MachineToken]) -> Result<FetchedToken<'a>, Memory>
     ensures { IfOk result (λ n. IsNext calls.old tokens.now n calls.new) }
 {
@@ -104,13 +104,12 @@ fn run_bytes(alloc: Global, b: &[u8], budget: u64) -> Result<Row<PagePaint>, Mac
     }
 }
 
-/// Runs the bytes of a text: executes its tokens, at most `budget` of them, and gives what was painted
-/// on each page, in 1/10000 point. Halt comes exactly at the first token where the run can't go on, with
-/// the first cause that holds there: bytes that begin no token, then a budget that is used up, then what
-/// keeps the token from being executed. Memory says nothing of the text.
+/// Runs the bytes of a text: executes its tokens, at most `budget` of them, and returns what was painted on each
+/// page, in 1/10000 point. Returns `Halt` exactly at the first token where the run can't go on, with the first cause
+/// that applies there: bytes that begin no token, then a used-up budget, then what prevents the execution of the
+/// token. `Memory` says nothing about the text.
 ///
-/// A document with a budget of at least 100 tokens for each of its bytes gives
-/// what its sheet paints, and no Halt.
+/// For a document, a budget of at least 100 tokens per byte yields what its sheet paints, and no `Halt`.
 pub fn run_machine(alloc: Global, b: &[u8], budget: u64) -> Result<Row<PagePaint>, MachineError>
     ensures painted { IfOk result (λ pages. Paints b.now budget pages) }
     ensures halted { IfErr result (λ e. IsHalt b.now budget e) }

@@ -7,7 +7,7 @@ ghost use Rattle.ps_machine.specs.Doing.{state_of, DidOrStopped, IsFactors};
 use crate::state::{Machine, Stop};
 use ps_steps::{Cause, Hundredths, Number, Operand};
 
-/// A factor in hundredths.
+/// Returns a factor in hundredths.
 fn factor(v: &Operand) -> Option<Hundredths>
     ensures { result ≡ factor v.now }
 {
@@ -18,7 +18,7 @@ fn factor(v: &Operand) -> Option<Hundredths>
     }
 }
 
-/// Takes two equal factors off the stack.
+/// Pops two equal factors.
 fn factors(stack: &mut Vec<Operand>) -> Result<Hundredths, Stop>
     ensures { IsFactors (reverse stack.old.items) result (reverse stack.new.items) }
 {
@@ -40,7 +40,7 @@ fn factors(stack: &mut Vec<Operand>) -> Result<Hundredths, Stop>
     }
 }
 
-/// Makes the scale the hundredth part of a number.
+/// Sets the scale to a hundredth of a number.
 fn rescale(m: &mut Machine, p: i128) -> Result<(), Stop>
     ensures { DidOrStopped (scaled p (state_of m.old)) result (state_of m.new) }
 {
@@ -56,13 +56,14 @@ fn rescale(m: &mut Machine, p: i128) -> Result<(), Stop>
     }
 }
 
-/// A scale times a factor in hundredths.
+/// Returns a scale times a factor in hundredths.
 fn product_of(scale: &Number, factor: &Hundredths) -> i128
     ensures { result ≡ scale.now *ℤ factor.now }
 {
     i128::from(scale.get()) * factor.get()
 }
 
+/// Executes `scale`: multiplies the scale by a factor.
 pub fn scale(m: &mut Machine) -> Result<(), Stop>
     ensures { DidOrStopped (operated scale_op (state_of m.old)) result (state_of m.new) }
 {

@@ -26,6 +26,7 @@ fn shown(alloc: Global, m: &mut Machine, words: &[u8]) -> Result<(), Stop>
     Ok(())
 }
 
+/// Executes `show`: shows words at the current point.
 pub fn show(alloc: Global, m: &mut Machine) -> Result<(), Stop>
     ensures { DidOrStopped (operated show_op (state_of m.old)) result (state_of m.new) }
 {

@@ -9,8 +9,8 @@ use mus_units::{Memory, Row};
 use ps_steps::{Cause, Operand, PagePaint, Paint};
 use std::alloc::{AllocError, AllocFailed};
 
-/// The machine: its stack with the top last, its definitions, whether the font was made, the graphics
-/// state with those that are saved, the paints of the page and the pages before it.
+/// The machine: its stack with the top last, its definitions, whether the font was made, the graphics state with the
+/// saved ones, the paints of the page and the pages before it.
 #[derive(Drop)]
 pub struct Machine<'a> {
     pub stack: Vec<Operand<'a>>,

@@ -1,4 +1,4 @@
--- Steps and further steps.
+-- Steps followed by further steps.
 use Rattle.std.proofs.{Common.ℕ, Common.◌+◌, Common.List, Math.Nat.zero-add, Math.Nat.suc-add}
 use Rattle.ps_steps.specs.{Tokens.SimpleToken, State.State, Steps.RunState, Steps.TakesSteps, Steps.here, Steps.step}
 

@@ -1,4 +1,4 @@
--- How large a number of the painting machine may be: 2^60 in size.
+-- The largest size of a number of the painting machine: 2^60.
 use Rattle.std.specs.Prelude.{ℤ, pos, negsuc, int_le, Bool, ◌&&◌}
 
 -- within 2^60 of 0

@@ -1,7 +1,7 @@
--- What a token does to the state, and why it may not. A number, a string, a label and a procedure are pushed; the
--- font's line makes the font; a name calls the procedure that it was given, or else is one of the operators. An
--- operator halts where it has too few operands (Stack), else where one is of another kind (Kind), and then for what is
--- its own. A number with a point is an operand of `scale` alone.
+-- What a token does to the state, and why it may not be executed. A number, a string, a label and a procedure are
+-- pushed; the font's line makes the font; a name calls the procedure that it is defined as, or else is one of the
+-- operators. An operator halts if it has too few operands (Stack), else if one is of another kind (Kind), and then
+-- for its own causes. A number with a point is an operand of `scale` alone.
 use Rattle.std.specs.Prelude.{ℕ, zero, suc, ℤ, pos, ◌+ℤ◌, ◌*ℤ◌, int_le, int_div, int_rem, Bool, true, false, ◌&&◌, List}
 use Rattle.std.specs.Prelude.{[], ◌∷◌, ◌++◌, codes, Option, Some, None}
 use Rattle.std.specs.Str.{bytes_eq}
@@ -32,7 +32,7 @@ abbrev pub all_near : List ℤ → Bool
 all_near [] = true
 all_near (z ∷ zs) = is_near z && all_near zs
 
--- Range where a number is past 2^60 in size
+-- Range if a number exceeds 2^60 in size
 abbrev pub in_range : List ℤ → Outcome → Outcome
 in_range zs o = elim (all_near zs) [ true ↦ o | false ↦ halted Cause.Range ]
 
@@ -49,13 +49,13 @@ with_two (whole_value y ∷ whole_value x ∷ st) m f = f x y (record m { stack 
 with_two (b ∷ a ∷ st) m f = halted Cause.Kind
 with_two st m f = halted Cause.Stack
 
--- whether there are so many values
+-- whether there are at least this many values
 abbrev pub has : ℕ → List Operand → Bool
 has zero st = true
 has (suc n) [] = false
 has (suc n) (v ∷ st) = has n st
 
--- so many whole numbers from the top, before those that were taken
+-- this many whole numbers from the top, before those already taken
 abbrev pub pick : List ℤ → ℕ → List Operand → State → (List ℤ → State → Outcome) → Outcome
 pick zs zero st m f = f zs (record m { stack = st })
 pick zs (suc n) (whole_value z ∷ st) m f = pick (z ∷ zs) n st m f
@@ -69,11 +69,11 @@ with_six st m f = elim (has 6 st) [ true ↦ pick [] 6 st m f | false ↦ halted
 abbrev pub add_seg : Seg → State → Outcome
 add_seg s m = done (record m { now = record m.now { path = m.now.path ++ s ∷ [] } })
 
--- a piece to a point, where that is in range
+-- a piece to a point, if that is in range
 abbrev pub moveto : ℤ → ℤ → State → Outcome
 moveto x y m = in_range (across m.now x ∷ above m.now y ∷ []) (add_seg (Seg.Move (across m.now x) (above m.now y)) m)
 
--- there is a current point exactly where the path isn't empty
+-- continues if there is a current point, which there is exactly when the path isn't empty
 abbrev pub at_point : List Seg → Outcome → Outcome
 at_point [] o = halted Cause.Point
 at_point (g ∷ path) o = o
@@ -90,7 +90,7 @@ curveto (a ∷ b ∷ c ∷ d ∷ x ∷ y ∷ []) m = at_point m.now.path
     (Seg.Curve (across m.now a) (above m.now b) (across m.now c) (above m.now d) (across m.now x) (above m.now y)) m))
 curveto _ m = halted Cause.Stack
 
--- without a current point a Close does nothing
+-- without a current point, a Close does nothing
 abbrev pub close_path : List Seg → State → Outcome
 close_path [] m = done m
 close_path (g ∷ path) m = add_seg Seg.Close m
@@ -102,11 +102,11 @@ painted p m = done (record m { paints = m.paints ++ p ∷ []; now = record m.now
 abbrev pub fill : State → Outcome
 fill m = painted (Paint.Fill m.now.path) m
 
--- the width of lines is painted times the scale
+-- the line width is painted times the scale
 abbrev pub stroke : State → Outcome
 stroke m = let w = m.now.line *ℤ m.now.scale in in_range (w ∷ []) (painted (Paint.Stroke w m.now.path) m)
 
--- the path and the graphics state that were kept last come back
+-- the path and the graphics state that were saved last are restored
 abbrev pub grestore : List Graphics → State → Outcome
 grestore [] m = halted Cause.Restore
 grestore (g ∷ gs) m = done (record m { now = g; saved = gs })
@@ -126,19 +126,19 @@ factor _ = None
 abbrev pub same : ℤ → ℤ → Bool
 same a b = int_le a b && int_le b a
 
--- the new scale, times 100, has to be a whole number of hundreds, at least one
+-- the new scale, times 100, has to be a whole multiple of a hundred, at least one hundred
 abbrev pub scaled : ℤ → State → Outcome
 scaled p m = elim (same (int_rem p (pos 100)) (pos 0) && int_le (pos 100) p) [
   | true ↦ in_range (int_div p (pos 100) ∷ []) (done (record m { now = record m.now { scale = int_div p (pos 100) } }))
   | false ↦ halted Cause.Scale
 ]
 
--- both factors, in hundredths, where they are numbers
+-- both factors, in hundredths, if they are numbers
 abbrev pub with_factors : Option ℤ → Option ℤ → State → Outcome
 with_factors (Some a) (Some b) m = elim (same a b) [ true ↦ scaled (m.now.scale *ℤ a) m | false ↦ halted Cause.Scale ]
 with_factors _ _ m = halted Cause.Kind
 
--- the scale is multiplied by a factor, which stands there twice
+-- the scale is multiplied by a factor, which is on the stack twice
 abbrev pub scale : List Operand → State → Outcome
 scale (b ∷ a ∷ st) m = with_factors (factor a) (factor b) (record m { stack = st })
 scale _ m = halted Cause.Stack
@@ -168,7 +168,7 @@ setfont (font_value s ∷ st) m = done (record m { stack = st; now = record m.no
 setfont (v ∷ st) m = halted Cause.Kind
 setfont [] m = halted Cause.Stack
 
--- words are shown at the current point, in the size of the font times the scale, and the path stays as it is
+-- words are shown at the current point, in the font size times the scale, and the path stays the same
 abbrev pub shown_at : List ℕ → Option (ℤ × ℤ) → State → Outcome
 shown_at words None m = halted Cause.Point
 shown_at words (Some p) m =
@@ -189,7 +189,7 @@ define (body_value body ∷ label_value name ∷ st) m = done (record m { stack 
 define (b ∷ a ∷ st) m = halted Cause.Kind
 define _ m = halted Cause.Stack
 
--- a page ends, and the rest of the state stays as it is
+-- a page ends, and the rest of the state stays the same
 abbrev pub showpage : State → Outcome
 showpage m = done (record m { paints = []; pages = m.pages ++ record { paints = m.paints } ∷ [] })
 
@@ -240,7 +240,7 @@ abbrev pub found_in : List Operator → List ℕ → Option Operator
 found_in [] name = None
 found_in (o ∷ os) name = elim (bytes_eq (operator_name o) name) [ true ↦ Some o | false ↦ found_in os name ]
 
--- the operator of that name, if any
+-- the operator with this name, if any
 abbrev pub operator_named : List ℕ → Option Operator
 operator_named name = found_in operators name
 
@@ -268,7 +268,7 @@ abbrev pub operated_if : Option Operator → State → Outcome
 operated_if None m = halted Cause.Name
 operated_if (Some o) m = operated o m
 
--- a name calls the procedure that it was given, or else is an operator
+-- a name calls the procedure that it is defined as, or else is an operator
 abbrev pub called : Option (List SimpleToken) → List ℕ → State → Outcome
 called (Some body) name m = went body m
 called None name m = operated_if (operator_named name) m

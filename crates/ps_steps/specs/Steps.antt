@@ -1,4 +1,4 @@
--- Runs: the steps of the machine, and its answers.
+-- Runs: the steps of the machine, and its results.
 use Rattle.std.specs.Prelude.{◌≡◌, ℕ, zero, suc, ◌<◌, ◌≤◌, false, List, [], ◌∷◌, ◌++◌}
 use Rattle.ps_steps.specs.declared.halt.Cause.{Cause}
 use Rattle.ps_steps.specs.declared.halt.MachineError.{MachineError}
@@ -8,8 +8,8 @@ use Rattle.ps_steps.specs.Tokens.{SimpleToken, MachineToken, simple_token, Token
 use Rattle.ps_steps.specs.State.{State, first_state}
 use Rattle.ps_steps.specs.Operators.{went, halted, executed}
 
--- where a run stands: the tokens of procedures that are still to be executed, the state, and the text that is left,
--- which begins with no blank and no comment
+-- the state of a run: the tokens of procedures that are still to be executed, the machine's state, and the rest of
+-- the text, which doesn't begin with a blank or a comment
 pub record RunState : Type 0 where
   pub pending : List SimpleToken
   pub state : State
@@ -19,7 +19,7 @@ pub record RunState : Type 0 where
 abbrev pub state_before : State → List ℕ → RunState
 state_before m s = record { pending = []; state = m; text = passed false s }
 
--- the next token, and the place behind it
+-- the next token, and the state after it
 pub data NextToken : RunState → MachineToken → RunState → Type 0 where
   from_pending : (t : SimpleToken) (ts : List SimpleToken) (m : State) (s : List ℕ)
       → NextToken (record { pending = t ∷ ts; state = m; text = s }) (simple_token t)
@@ -40,7 +40,7 @@ pub record Step (p q : RunState) : Type 0 where
   pub went : executed token p.state ≡ went body state
   pub is : q ≡ state_after body state rest
 
--- so many tokens are executed from one place to another
+-- this many tokens are executed from one state to another
 pub data TakesSteps : ℕ → RunState → RunState → Type 0 where
   here : (p : RunState) → TakesSteps zero p p
   step : (n : ℕ) (p q r : RunState) → Step p q → TakesSteps n q r → TakesSteps (suc n) p r
@@ -69,7 +69,7 @@ pub record Stuck (p : RunState) (cause : Cause) : Type 0 where
   pub next : NextToken p token rest
   pub halts : executed token p.state ≡ halted cause
 
--- the run ends in its text's end
+-- the run ends at the end of its text
 pub record Paints (text : List ℕ) (budget : ℕ) (pages : List PagePaint) : Type 0 where
   pub count : ℕ
   pub last : RunState
@@ -78,7 +78,7 @@ pub record Paints (text : List ℕ) (budget : ℕ) (pages : List PagePaint) : Ty
   pub ended : Ended last
   pub painted : last.state.pages ≡ pages
 
--- why a run may not go on: the bytes begin no token; or the budget is used up; or the token can't be executed
+-- why a run may not go on: the bytes begin no token, the budget is used up, or the token can't be executed
 pub data Cannot (budget count : ℕ) (p : RunState) : Cause → Type 0 where
   unreadable : (cause : Cause) → Unreadable p cause → Cannot budget count p cause
   used_up : count ≡ budget → Ready p → Cannot budget count p Cause.Budget

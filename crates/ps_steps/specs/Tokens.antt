@@ -1,9 +1,9 @@
--- Tokens: how the bytes of a text are parted, and what stands at its front. Spaces, tabs, CR and LF part tokens, as far
--- as they need parting; a % outside a string begins a comment, which ends before the next LF. A word is a maximal run
--- of other bytes than these, `(`, `)`, `{`, `}` and `/`. It is a whole number, an optional minus and digits; or a
--- number with a point, such a number followed by a point and two digits; or a name, a letter and then letters and
+-- Tokens: how the bytes of a text are split, and what the text begins with. Spaces, tabs, CR and LF separate tokens,
+-- where that is needed; a % outside a string begins a comment, which ends before the next LF. A word is a maximal run
+-- of bytes other than these, `(`, `)`, `{`, `}` and `/`. It is a whole number: an optional minus and digits; or a
+-- number with a point: such a number followed by a point and two digits; or a name: a letter followed by letters and
 -- digits. A slash and a name are a label. A string is spelled in parentheses, as a page spells words. The line that
--- makes the font is one token. A procedure from its `{` to its `}` is one token, and has no other procedure in it.
+-- makes the font is one token. A procedure from its `{` to its `}` is one token, and contains no other procedure.
 use Prim.Native.Char.{code}
 use Rattle.std.specs.Prelude.{◌≡◌, ℕ, ℤ, pos, neg_ℤ, ◌-◌, ◌≤◌, Bool, true, false, ◌&&◌, ◌||◌, not, ◌==◌, IsTrue}
 use Rattle.std.specs.Prelude.{if◌then◌else◌, List, [], ◌∷◌, ◌++◌, length, take, drop, codes, Option, Some, None}
@@ -35,11 +35,11 @@ is_delimiter b =
 abbrev pub is_regular : ℕ → Bool
 is_regular b = not (is_white_space b || is_delimiter b)
 
--- blanks are passed over, and a % begins a comment
+-- blanks are skipped, and a % begins a comment
 abbrev pub is_skipped : ℕ → Bool
 is_skipped b = is_white_space b || (b == code "%")
 
--- a text without the blanks and comments at its front; the flag says that it begins within a comment, which ends before
+-- a text without its leading blanks and comments; the flag says that it begins within a comment, which ends before
 -- the next LF
 abbrev pub passed : Bool → List ℕ → List ℕ
 passed inside [] = []
@@ -59,7 +59,7 @@ abbrev pub some_digits : List ℕ → Bool
 some_digits [] = false
 some_digits (b ∷ w) = list_all is_digit (b ∷ w)
 
--- a word without a minus in front
+-- a word without a leading minus
 abbrev pub unsigned : List ℕ → List ℕ
 unsigned [] = []
 unsigned (b ∷ w) = if b == code "-" then w else b ∷ w
@@ -67,7 +67,7 @@ unsigned (b ∷ w) = if b == code "-" then w else b ∷ w
 abbrev pub is_whole : List ℕ → Bool
 is_whole w = some_digits (unsigned w)
 
--- digits, a point and two digits: the part before the last three bytes, and those
+-- digits, a point and two digits: the part before the last three bytes, and those three
 abbrev pub is_fraction : List ℕ → Bool
 is_fraction (p ∷ a ∷ b ∷ []) = (p == code ".") && is_digit a && is_digit b
 is_fraction _ = false
@@ -85,7 +85,7 @@ is_name (b ∷ w) = is_letter b && list_all (λ c. is_letter c || is_digit c) w
 abbrev pub without_point : List ℕ → List ℕ
 without_point w = take (length w - 3) w ++ drop (length w - 2) w
 
--- a number past 2^60 in size is far, and what it is doesn't matter
+-- a number that exceeds 2^60 in size is far, whatever its value
 abbrev pub whole_number : ℤ → SimpleToken
 whole_number z = if is_near z then whole_token z else far_token
 
@@ -96,12 +96,12 @@ abbrev pub has_minus : List ℕ → Bool
 has_minus [] = false
 has_minus (b ∷ w) = b == code "-"
 
--- the number that an optional minus and digits write
+-- the number that an optional minus and digits spell
 abbrev pub number_written : List ℕ → ℤ
 number_written w =
     if has_minus w then neg_ℤ (pos (digits_value 10 (unsigned w))) else pos (digits_value 10 (unsigned w))
 
--- in hundredths, where it has a point
+-- in hundredths, if it has a point
 abbrev pub hundredths_written : List ℕ → ℤ
 hundredths_written w =
     if has_minus w then neg_ℤ (pos (digits_value 10 (without_point (unsigned w))))
@@ -126,7 +126,7 @@ pub record IsWord (s w rest : List ℕ) : Type 0 where
   pub cut : s ≡ w ++ rest
   pub maximal : begins is_regular rest ≡ false
 
--- behind a `(`, words as they are spelled in a line of a page, and a `)`
+-- after a `(`: words as spelled in a line of a page, and a `)`
 pub record IsString (s words rest : List ℕ) : Type 0 where
   pub good : IsTrue (list_all is_shown words)
   pub spelled : s ≡ flat_map shown words ++ code ")" ∷ rest
@@ -139,7 +139,7 @@ pub record IsOpenString (s : List ℕ) : Type 0 where
   pub good : IsTrue (list_all is_shown words)
   pub spelled : s ++ first ∷ more ≡ flat_map shown words ++ code ")" ∷ []
 
--- what stands at the front
+-- what a text begins with
 pub data Read : Type 0 where
   found : (t : SimpleToken) (rest : List ℕ) → Read
   opening : (rest : List ℕ) → Read
@@ -149,7 +149,7 @@ pub data Read : Type 0 where
 abbrev pub IsFont : List ℕ → List ℕ → Type 0
 IsFont s rest = s ≡ font_line ++ rest
 
--- what stands at the front of a text that begins with no blank and no comment
+-- what a text begins with that doesn't begin with a blank or a comment
 pub data Front (s : List ℕ) : Read → Type 0 where
   font_front : (rest : List ℕ) → IsFont s rest → Front s (found font_token rest)
   label_front : (t w rest : List ℕ)
@@ -170,13 +170,13 @@ pub data Front (s : List ℕ) : Read → Type 0 where
   word_front : (w rest : List ℕ) (t : SimpleToken) → IsWord s w rest → word_token w ≡ Some t → Front s (found t rest)
   no_word : (w rest : List ℕ) → IsWord s w rest → word_token w ≡ None → Front s (unread Cause.BadToken)
 
--- the tokens of a procedure, from behind its `{`, and what stands behind its `}`
+-- the tokens of a procedure, from after its `{`, and the rest after its `}`
 pub data Body : List ℕ → List SimpleToken → List ℕ → Type 0 where
   closes : (s rest : List ℕ) → Front (passed false s) (closing rest) → Body s [] rest
   goes_on : (s r rest : List ℕ) (t : SimpleToken) (ts : List SimpleToken)
       → Front (passed false s) (found t r) → Body r ts rest → Body s (t ∷ ts) rest
 
--- why it is none
+-- why there is no procedure
 pub data NoBody : List ℕ → Cause → Type 0 where
   unclosed : (s : List ℕ) → passed false s ≡ [] → NoBody s Cause.Unclosed
   nested : (s rest : List ℕ) → Front (passed false s) (opening rest) → NoBody s Cause.BadToken
@@ -184,13 +184,13 @@ pub data NoBody : List ℕ → Cause → Type 0 where
   later : (s r : List ℕ) (t : SimpleToken) (cause : Cause)
       → Front (passed false s) (found t r) → NoBody r cause → NoBody s cause
 
--- a token stands at the front, and rest behind it
+-- the text begins with a token, followed by rest
 pub data TokenAt (s : List ℕ) : MachineToken → List ℕ → Type 0 where
   simple_at : (t : SimpleToken) (rest : List ℕ) → Front s (found t rest) → TokenAt s (simple_token t) rest
   procedure_at : (r rest : List ℕ) (ts : List SimpleToken)
       → Front s (opening r) → Body r ts rest → TokenAt s (procedure_token ts) rest
 
--- none does
+-- the text begins with no token
 pub data NoToken (s : List ℕ) : Cause → Type 0 where
   unread_at : (cause : Cause) → Front s (unread cause) → NoToken s cause
   closing_at : (r : List ℕ) → Front s (closing r) → NoToken s Cause.Unclosed

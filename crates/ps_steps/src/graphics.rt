@@ -4,7 +4,7 @@ use crate::paint::Seg;
 use crate::token::Number;
 use mus_units::Row;
 
-/// What a `gsave` keeps: the path, the scale, the origin, the size of the font and the width of lines.
+/// What a `gsave` saves: the path, the scale, the origin, the font size and the line width.
 #[derive(Drop)]
 pub struct Graphics {
     pub path: Row<Seg>,

@@ -5,29 +5,29 @@ ghost use Rattle.ps_steps.specs.declared.halt.MachineError.TheVariants as errors
 
 use mus_units::Memory;
 
-/// Why a run halts at a token. Where several causes hold there, the first in this order is told:
-/// BadToken, Unclosed, Budget, and then the others as they stand here.
+/// Why a run halts at a token. If several causes apply, the first in this order is reported: BadToken, Unclosed,
+/// Budget, and then the others in the order in which they are listed here.
 #[derive(Clone, Copy, PartialEq, Eq)]
 pub enum Cause {
-    /// The bytes there begin no token, within a procedure too; or a `{` stands in a procedure.
+    /// The bytes there begin no token, also within a procedure; or a `{` is in a procedure.
     BadToken,
     /// A string or a procedure doesn't end; or a `}` has no `{`.
     Unclosed,
     /// An operator has too few operands.
     Stack,
-    /// An operand is of another kind than the operator takes.
+    /// An operand is not of the kind that the operator takes.
     Kind,
-    /// A name has no meaning; or `findfont` gets a name that is no font's.
+    /// A name has no meaning; or `findfont` gets a name that isn't a font's.
     Name,
-    /// A line, a curve or words, without a current point.
+    /// A line, a curve or words without a current point.
     Point,
     /// A `grestore` with nothing saved.
     Restore,
-    /// The two factors of a `scale` differ; or the new scale is no whole number from 1 on.
+    /// The two factors of a `scale` differ; or the new scale isn't a whole number of at least 1.
     Scale,
-    /// A number that the token makes or paints is past 2^60 in size.
+    /// A number that the token makes or paints exceeds 2^60 in size.
     Range,
-    /// As many tokens as the budget were executed, and there is one more.
+    /// The budget is used up, and there is one more token.
     Budget,
 }
 

@@ -1,6 +1,5 @@
-//! The painting machine, as it is meant: its tokens, its state, what each
-//! operator does, and what a run of a text gives. The types that the machine's
-//! answers are made of stand here, with the values that it keeps.
+//! The painting machine as specified: its tokens, its state, what each operator does, and the result of running a
+//! text. It defines the types of the machine's results and the values that the machine keeps.
 #![tactic(auto)]
 
 pub mod graphics;

@@ -2,8 +2,8 @@
 
 use mus_units::{Row, Text};
 
-/// A piece of a path: a point to begin at, a straight line to a point, a curve
-/// by two control points to a point, and the line back to the last Move.
+/// A piece of a path: a point to begin at, a straight line to a point, a curve by two control points to a point, or
+/// the line back to the last Move.
 #[derive(Clone, Copy, PartialEq, Eq)]
 pub enum Seg {
     Move(i64, i64),
@@ -12,8 +12,8 @@ pub enum Seg {
     Close,
 }
 
-/// What is painted: a path filled; a path stroked, with the width of its line;
-/// or words shown, with their size and the point where they begin.
+/// One thing painted: a filled path; a stroked path, with its line width; or words, with their size and the point
+/// where they begin.
 #[derive(Drop)]
 pub enum Paint {
     Fill(Row<Seg>),

@@ -24,7 +24,7 @@ impl Model for Number {
 }
 
 impl Number {
-    /// The number; none where it is past 2^60 in size.
+    /// Makes the number; `None` if it exceeds 2^60 in size.
     pub fn new(value: i128) -> Option<Number>
         ensures value { MatchOption result (is_near value ≡ false) (λ n. n ≡ value) }
         ensures near { MatchOption result (true ≡ true) (λ n. is_near value ≡ true) }
@@ -38,14 +38,14 @@ impl Number {
         }
     }
 
-    /// 10000, the scale of a machine that begins: a point.
+    /// Returns 10000, the initial scale of a machine: a point.
     pub fn point() -> Number
         ensures { result ≡ pos 10000 }
     {
         Number { value: 10_000 }
     }
 
-    /// How much it is.
+    /// Returns the value.
     pub fn get(&self) -> i64
         ensures value { result ≡ self.now }
         ensures near { is_near self.now ≡ true }
@@ -53,14 +53,14 @@ impl Number {
         self.value
     }
 
-    /// The same number once more.
+    /// Returns a copy of the number.
     pub fn same(&self) -> Number
         ensures { result ≡ self.now }
     {
         Number { value: self.value }
     }
 
-    /// The same number in hundredths.
+    /// Returns the number in hundredths.
     pub fn hundredths(&self) -> Hundredths
         ensures { result ≡ self.now *ℤ pos 100 }
     {
@@ -70,7 +70,7 @@ impl Number {
     }
 }
 
-/// A number with a point, which counts hundredths: within 2^60 of 0, so within 100 times that.
+/// A number with a point, counted in hundredths: within 2^60 of 0, so within 100 times that.
 #[derive(Drop)]
 pub struct Hundredths {
     count: i128,
@@ -88,7 +88,7 @@ impl Model for Hundredths {
 }
 
 impl Hundredths {
-    /// So many hundredths; none where they are more than 100 times 2^60, or less than that below 0.
+    /// Makes `count` hundredths; `None` if they exceed 100 times 2^60 in size.
     pub fn new(count: i128) -> Option<Hundredths>
         ensures value { MatchOption result (is_near_hundredths count ≡ false) (λ h. h ≡ count) }
         ensures near { MatchOption result (true ≡ true) (λ h. is_near_hundredths count ≡ true) }
@@ -100,7 +100,7 @@ impl Hundredths {
         }
     }
 
-    /// How many hundredths.
+    /// Returns the number of hundredths.
     pub fn get(&self) -> i128
         ensures value { result ≡ self.now }
         ensures near { is_near_hundredths self.now ≡ true }
@@ -108,7 +108,7 @@ impl Hundredths {
         self.count
     }
 
-    /// The same number once more.
+    /// Returns a copy of the number.
     pub fn same(&self) -> Hundredths
         ensures { result ≡ self.now }
     {
@@ -116,18 +116,18 @@ impl Hundredths {
     }
 }
 
-/// A token that may stand in a procedure. A number past 2^60 in size is far, whatever it is.
+/// A token that may be in a procedure. A number that exceeds 2^60 in size is `Far`, whatever its value.
 #[derive(Drop)]
 pub enum SimpleToken {
     /// A whole number.
     Whole(Number),
-    /// A number with a point and two digits behind it.
+    /// A number with a point and two digits after it.
     Pointed(Hundredths),
-    /// A number past 2^60 in size.
+    /// A number that exceeds 2^60 in size.
     Far,
     /// A string, as the bytes that it spells.
     Words(Text),
-    /// A name behind a slash, without the slash.
+    /// A name after a slash, without the slash.
     Label(Text),
     /// A name.
     Name(Text),
@@ -135,8 +135,7 @@ pub enum SimpleToken {
     Font,
 }
 
-/// A token: one that may stand in a procedure, or a procedure from its `{` to
-/// its `}`, with the tokens in it.
+/// A token: one that may be in a procedure, or a procedure from its `{` to its `}`, with its tokens.
 #[derive(Drop)]
 pub enum MachineToken {
     Simple(SimpleToken),

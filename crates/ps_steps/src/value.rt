@@ -1,5 +1,5 @@
-//! What may stand on the operand stack. Strings, names and procedures are not
-//! copied: they are parts of the tokens that were read.
+//! What may be on the operand stack. Strings, names and procedures are not copied: they are parts of the tokens that
+//! were read.
 
 ghost use Rattle.std.specs.Prelude.{◌≡◌};
 
@@ -21,14 +21,14 @@ impl<'a> Model for StringBytes<'a> {
 }
 
 impl<'a> StringBytes<'a> {
-    /// These bytes.
+    /// Wraps these bytes.
     pub fn new(bytes: &'a [u8]) -> StringBytes<'a>
         ensures { result ≡ bytes.now }
     {
         StringBytes { bytes }
     }
 
-    /// All of them.
+    /// Returns all bytes.
     pub fn as_slice(&self) -> &'a [u8]
         ensures { result.now ≡ self.now }
     {
@@ -52,14 +52,14 @@ impl<'a> Model for Procedure<'a> {
 }
 
 impl<'a> Procedure<'a> {
-    /// These tokens.
+    /// Wraps these tokens.
     pub fn new(tokens: &'a [SimpleToken]) -> Procedure<'a>
         ensures { result ≡ tokens.now }
     {
         Procedure { tokens }
     }
 
-    /// All of them.
+    /// Returns all tokens.
     pub fn as_slice(&self) -> &'a [SimpleToken]
         ensures { result.now ≡ self.now }
     {
@@ -67,7 +67,7 @@ impl<'a> Procedure<'a> {
     }
 }
 
-/// A value on the stack. Font is the font of the words, with its size.
+/// A value on the stack. `Font` is the font of the words, with its size.
 #[derive(Drop)]
 pub enum Operand<'a> {
     Whole(Number),

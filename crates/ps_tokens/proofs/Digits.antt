@@ -55,7 +55,7 @@ some_length : (ds : List ℕ) → some_digits ds ≡ true → 1 ≤ length ds
 some_length [] e = absurd (true≢false (sym e))
 some_length (b ∷ ds) e = omega arith
 
--- behind the point are digits
+-- after the point there are digits
 fraction_digits : (s : List ℕ) → is_fraction s ≡ true → list_all is_digit (drop 1 s) ≡ true
 fraction_digits (p ∷ a ∷ b ∷ []) e =
     let x = (and_parts ((p == 46) && is_digit a) (is_digit b) e).0 in

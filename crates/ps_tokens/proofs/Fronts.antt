@@ -1,4 +1,4 @@
--- The longest run at the front of a list.
+-- The longest run at the start of a list.
 use Rattle.std.proofs.Common.{◌≡◌, ℕ, ◌+◌, Bool, true, false, cond, List, [], ◌∷◌, ◌++◌, take, drop, get_or, length}
 use Rattle.std.proofs.Common.{◌≤◌, refl, sym, ◌∙◌, ap, arith, true≢false}
 use Rattle.std.proofs.Math.Numerals.{one-add}
@@ -39,7 +39,7 @@ one_run p (x ∷ w) (y ∷ v) r q a b c d e =
     one_run p w v r q (and_parts (p x) (list_all p w) a).1 (and_parts (p y) (list_all p v) b).1 c d (ap (drop 1) e) in
     (ap (λ t. x ∷ t) m.0 ∙ ap (λ z. z ∷ v) h, m.1)
 
--- where the longest word is no name, no word is
+-- if the longest word isn't a name, no word is
 pub no_name : (s w r : List ℕ)
     → s ≡ w ++ r → list_all is_regular w ≡ true → begins is_regular r ≡ false → is_name w ≡ false → (v q : List ℕ)
     → IsWord s v q → is_name v ≡ true

@@ -1,4 +1,4 @@
--- A text begins with one token at most, and where none stands there is one cause.
+-- A text begins with at most one token, and if it begins with none, there is one cause.
 use Rattle.std.proofs.Common.{◌≡◌, ℕ, true, false, cond, ◌==◌, append_assoc, List, [], ◌∷◌, ◌++◌, drop, Option, Some}
 use Rattle.std.proofs.Common.{None, refl, sym, subst, ◌∙◌, ap, arith}
 use Rattle.std.proofs.lemmas.Bool.Decides.{nat_tests}
@@ -21,7 +21,7 @@ use Rattle.ps_tokens.specs.OneToken.{BeginsInOneWay}
 use Rattle.ps_tokens.proofs.Fronts.{one_run}
 use Rattle.ps_tokens.proofs.Strings.{one_string, one_words}
 
--- what stands behind a slash, behind a parenthesis, and at a byte of a word
+-- what follows a slash or a parenthesis, and what begins with a byte of a word
 data Slashed (s t : List ℕ) : Read → Type 0 where
   as_font : (rest : List ℕ) → IsFont s rest → Slashed s t (found font_token rest)
   as_label : (w rest : List ℕ)
@@ -43,7 +43,7 @@ nil_cons : {A : Type 0} (xs : List A) (x : A) (ys : List A) → xs ++ x ∷ ys �
 nil_cons [] x ys e = cc
 nil_cons (z ∷ xs) x ys e = cc
 
--- where a string stands, the text isn't the beginning of one that doesn't end
+-- if a text begins with a string, it isn't the beginning of one that doesn't end
 closed : (t words rest : List ℕ) → IsString t words rest → IsOpenString t → ⊥
 closed t words rest a o =
     let e : flat_map shown words ++ 41 ∷ (rest ++ o.first ∷ o.more) ≡ flat_map shown o.words ++ 41 ∷ [] =
@@ -179,7 +179,7 @@ one_front s x y a b = one_kind s x y (kind_of s x a) (kind_of s y b)
 no_cons : (s t : List ℕ) (b : ℕ) → s ≡ b ∷ t → s ≡ [] → ⊥
 no_cons s t b e f = cc
 
--- nothing stands at the front of no text
+-- the empty text begins with nothing
 front_some : (s : List ℕ) (x : Read) → Front s x → s ≡ [] → ⊥
 front_some s x f e = elim (kind_of s x f) [
   | k_part t h p ↦ no_cons s t 40 h e

@@ -1,4 +1,4 @@
--- What is left behind blanks and comments is no longer, and behind a token it is shorter.
+-- What is left after blanks and comments is no longer, and what is left after a token is shorter.
 use Rattle.std.proofs.Common.{◌≡◌, ℕ, suc, ◌<◌, ◌≤◌, Bool, true, false, List, [], ◌∷◌, length, length-append, arith}
 use Rattle.std.proofs.Common.{◌==◌}
 use Rattle.std.specs.List.{flat_map}

@@ -1,4 +1,4 @@
--- What spells a byte, what begins to, and what does neither.
+-- What spells a byte, what begins to spell one, and what does neither.
 use Rattle.std.proofs.Common.{◌≡◌, ℕ, ◌+◌, ◌-◌, ◌*◌, ◌/◌, ◌%◌, ◌<◌, ◌≤◌, Bool, true, false, List, [], ◌∷◌, ◌++◌}
 use Rattle.std.proofs.Common.{append-nil, length, length-append, refl, sym, ◌∙◌, ap, arith, IsTrue, true≢false}
 use Rattle.std.proofs.lemmas.Bool.Decides.{nat_tests}
@@ -30,7 +30,7 @@ special_shown : (b : ℕ) → is_special b ≡ true → shown b ≡ 92 ∷ b ∷
 unfolding shown
 special_shown b e = rw e refl
 
--- a byte as it is, behind a backslash, and as three octal digits
+-- a byte as itself, after a backslash, and as three octal digits
 pub bare_byte : (b : ℕ) (s : List ℕ) → is_bare b ≡ true → IsByte (b ∷ s) b s
 bare_byte b s e = record { good = bare_good b e; spelled = ap (λ x. x ++ s) (sym (bare_shown b e)) }
 
@@ -92,7 +92,7 @@ pub cut_second : (a b : ℕ)
     → is_lead a ≡ true → is_octal b ≡ true → 160 ≤ (a - 48) * 64 + (b - 48) * 8 → IsCut (92 ∷ a ∷ b ∷ [])
 cut_second a b e f l = cut_of (92 ∷ a ∷ b ∷ []) 48 [] _ (octal_byte a b 48 [] e f refl l)
 
--- no string goes on with these
+-- no string continues with these
 differ : (a b : ℕ) (p : ℕ → Bool) → a ≡ b → p a ≡ false → p b ≡ true → ⊥
 differ a b p e f g = true≢false (sym g ∙ (sym (ap p e) ∙ f))
 

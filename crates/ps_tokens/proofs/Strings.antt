@@ -1,4 +1,4 @@
--- A string is read in one way.
+-- There is one way to read a string.
 use Rattle.std.proofs.Common.{◌≡◌, ℕ, ◌+◌, ◌-◌, ◌*◌, ◌/◌, ◌%◌, ◌<◌, ◌≤◌, true, false, ◌==◌, List, [], ◌∷◌, ◌++◌}
 use Rattle.std.proofs.Common.{append_assoc, Option, Some, None, refl, sym, ◌∙◌, ap, arith, IsTrue}
 use Rattle.std.proofs.lemmas.Bool.Decides.{nat_tests}
@@ -19,7 +19,7 @@ pub escaped_read : List ℕ → Option (ℕ × List ℕ)
 escaped_read [] = None
 escaped_read (a ∷ s) = elim (is_special a) [ true ↦ Some (a, s) | false ↦ octal_read a s ]
 
--- the byte that is spelled at the front
+-- the spelled byte that the text begins with
 abbrev pub byte_read : List ℕ → Option (ℕ × List ℕ)
 byte_read [] = None
 byte_read (b ∷ s) =
@@ -44,11 +44,11 @@ octal_is : (a : ℕ) (s : List ℕ) → is_special a ≡ false → escaped_read 
 unfolding escaped_read
 octal_is a s e = ap (λ x. elim x as (λ _. Option (ℕ × List ℕ)) [ true ↦ Some (a, s) | false ↦ octal_read a s ]) e
 
--- a closing parenthesis spells none
+-- a closing parenthesis spells no byte
 pub close_read : (r : List ℕ) → byte_read (41 ∷ r) ≡ None
 close_read r = refl
 
--- what spells a byte is read as it
+-- the spelling of a byte is read as that byte
 pub read_shown : (b : ℕ) (rest : List ℕ) → IsTrue (is_shown b) → byte_read (shown b ++ rest) ≡ Some (b, rest)
 unfolding octal_read escaped_read
 read_shown b rest h = by_sort (sort_of b h)
@@ -88,12 +88,12 @@ some_parts b c s t e = (ap (λ o. left_of o) e, ap (λ o. right_of o) e)
 none_some : (p : ℕ × List ℕ) → None ≡ Some p → ⊥
 none_some p e = cc
 
--- a byte is spelled in one way, and no spelling begins another
+-- a byte is spelled in one way, and no spelling is a proper prefix of another
 pub one_byte : (b c : ℕ) (s t : List ℕ)
     → IsTrue (is_shown b) → IsTrue (is_shown c) → shown b ++ s ≡ shown c ++ t → (b ≡ c) × (s ≡ t)
 one_byte b c s t h k e = some_parts b c s t (sym (read_shown b s h) ∙ (ap byte_read e ∙ read_shown c t k))
 
--- nor does it begin with a closing parenthesis
+-- nor does a spelling begin with a closing parenthesis
 pub not_close : (b : ℕ) (s t : List ℕ) → IsTrue (is_shown b) → shown b ++ s ≡ 41 ∷ t → ⊥
 not_close b s t h e = none_some (b, s) (sym (close_read t) ∙ (ap byte_read (sym e) ∙ read_shown b s h))
 
@@ -120,6 +120,6 @@ one_words (x ∷ w) (c ∷ v) r q a b e =
     (and_parts (is_shown c) (list_all is_shown v) b).1 p.1 in
     (ap (λ y. y ∷ w) p.0 ∙ ap (λ t. c ∷ t) rest.0, rest.1)
 
--- a string stands at the front in one way
+-- a text begins with a string in one way
 pub one_string : (s w r v q : List ℕ) → IsString s w r → IsString s v q → (w ≡ v) × (r ≡ q)
 one_string s w r v q a b = one_words w v r q a.good b.good (sym a.spelled ∙ b.spelled)

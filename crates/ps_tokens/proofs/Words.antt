@@ -39,7 +39,7 @@ words_open bytes words rest s c = record {
       ∙ ap (λ x. x ++ 41 ∷ []) (flat_map_more shown [] words c.byte))));
 }
 
--- where reading breaks off, no words stand, whatever follows
+-- if reading breaks off, the text begins with no words, whatever follows
 no_words : (w v rest t q : List ℕ)
     → list_all is_shown w ≡ true → list_all is_shown v ≡ true → IsBroken rest
     → flat_map shown w ++ (rest ++ t) ≡ flat_map shown v ++ 41 ∷ q

@@ -1,4 +1,4 @@
--- A text begins with one token at most, and where none stands there is one cause.
+-- A text begins with at most one token, and if it begins with none, there is one cause.
 use Rattle.std.specs.Prelude.{◌≡◌, ℕ, List, []}
 use Rattle.ps_steps.specs.declared.halt.Cause.{Cause}
 use Rattle.ps_steps.specs.declared.token.MachineToken.{MachineToken}

@@ -1,4 +1,4 @@
--- What the reader of tokens gives.
+-- What the reader of tokens returns.
 use Rattle.std.specs.Prelude.{ℕ, List}
 use Rattle.ps_tokens.specs.declared.front.TokenStart.{TokenStart as Given}
 use Rattle.ps_tokens.specs.declared.body.BodyRead.{BodyRead}

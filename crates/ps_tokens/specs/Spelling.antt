@@ -17,12 +17,12 @@ is_lead b = is_within (codes "23") b
 abbrev pub is_octal : ℕ → Bool
 is_octal b = is_within (codes "07") b
 
--- a byte is spelled at the front
+-- the text begins with a spelled byte
 pub record IsByte (s : List ℕ) (b : ℕ) (rest : List ℕ) : Type 0 where
   pub good : IsTrue (is_shown b)
   pub spelled : s ≡ shown b ++ rest
 
--- all bytes to the end are a proper beginning of what spells some byte
+-- all bytes to the end are a proper prefix of what spells some byte
 pub record IsCut (s : List ℕ) : Type 0 where
   pub byte : ℕ
   pub first : ℕ
@@ -30,7 +30,7 @@ pub record IsCut (s : List ℕ) : Type 0 where
   pub good : IsTrue (is_shown byte)
   pub spelled : s ++ first ∷ more ≡ shown byte
 
--- whatever follows these bytes, no spelled byte and no `)` stands at the front
+-- whatever follows these bytes, they begin with neither a spelled byte nor a `)`
 pub record IsBroken (s : List ℕ) : Type 0 where
   pub no_byte : (b : ℕ) (t u : List ℕ) → IsTrue (is_shown b) → s ++ t ≡ shown b ++ u → ⊥
   pub no_close : (t u : List ℕ) → s ++ t ≡ code ")" ∷ u → ⊥

@@ -9,21 +9,21 @@ use mus_units::{Memory, Row};
 use ps_steps::{Cause, MachineToken, SimpleToken};
 use std::alloc::Global;
 
-/// The tokens of a procedure and what stands behind its end, or why it is none.
+/// The tokens of a procedure and the rest after its end, or why there is no procedure.
 #[derive(Drop)]
 pub enum BodyRead<'a> {
     Whole(Row<SimpleToken>, &'a [u8]),
     Not(Cause),
 }
 
-/// A token and what stands behind it, or why there is none.
+/// A token and the rest after it, or why there is no token.
 #[derive(Drop)]
 pub enum TokenRead<'a> {
     Found(MachineToken, &'a [u8]),
     Not(Cause),
 }
 
-/// The procedure whose `{` stands before these bytes.
+/// Reads the procedure whose `{` precedes these bytes.
 pub fn body(alloc: Global, bytes: &[u8]) -> Result<BodyRead<'_>, Memory>
     ensures { IfOk result (IsBodyRead bytes.now) }
 {
@@ -46,7 +46,7 @@ pub fn body(alloc: Global, bytes: &[u8]) -> Result<BodyRead<'_>, Memory>
     }
 }
 
-/// The token at the front of bytes that begin with no blank and no comment.
+/// Reads the token at the start of bytes that don't begin with a blank or a comment.
 pub fn token(alloc: Global, bytes: &[u8]) -> Result<TokenRead<'_>, Memory>
     requires some { 1 ≤ length bytes.now }
     requires starts { begins is_skipped bytes.now ≡ false }

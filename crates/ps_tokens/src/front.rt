@@ -1,4 +1,4 @@
-//! What stands at the front of a text.
+//! What a text begins with.
 
 ghost use Rattle.std.specs.Prelude.{◌≡◌, ◌≤◌, ◌++◌, ◌∷◌, ℕ, List, length, true, false, IfOk, MatchOption};
 ghost use Rattle.ps_steps.specs.Tokens.{font_line, begins, is_regular, is_skipped, Front};
@@ -11,7 +11,7 @@ use mus_units::{Memory, Text};
 use ps_steps::{Cause, SimpleToken};
 use std::alloc::Global;
 
-/// What stands at the front of some bytes.
+/// What some bytes begin with.
 #[derive(Drop)]
 pub enum TokenStart<'a> {
     Found(SimpleToken, &'a [u8]),
@@ -37,7 +37,7 @@ fn strip<'a>(prefix: &[u8], bytes: &'a [u8]) -> Option<&'a [u8]>
     bytes.strip_prefix(prefix)
 }
 
-/// What stands at a slash.
+/// Reads what begins with a slash.
 fn slash<'a>(alloc: Global, bytes: &'a [u8], after: &'a [u8]) -> Result<TokenStart<'a>, Memory>
     requires { bytes.now ≡ 47 ∷ after.now }
     ensures { IfOk result (λ r. Front bytes.now (read_of r)) }
@@ -52,7 +52,7 @@ fn slash<'a>(alloc: Global, bytes: &'a [u8], after: &'a [u8]) -> Result<TokenSta
     Ok(TokenStart::Found(SimpleToken::Label(Text::from_slice(alloc, name)?), rest))
 }
 
-/// What stands at a byte of a word.
+/// Reads what begins with a byte of a word.
 fn regular(alloc: Global, bytes: &[u8]) -> Result<TokenStart<'_>, Memory>
     requires { begins is_regular bytes.now ≡ true }
     ensures { IfOk result (λ r. Front bytes.now (read_of r)) }
@@ -64,7 +64,7 @@ fn regular(alloc: Global, bytes: &[u8]) -> Result<TokenStart<'_>, Memory>
     }
 }
 
-/// What stands at the front of bytes that begin with no blank and no comment.
+/// Reads what begins the bytes, which don't begin with a blank or a comment.
 pub fn front(alloc: Global, bytes: &[u8]) -> Result<TokenStart<'_>, Memory>
     requires some { 1 ≤ length bytes.now }
     requires starts { begins is_skipped bytes.now ≡ false }

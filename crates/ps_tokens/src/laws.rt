@@ -2,7 +2,7 @@
 
 ghost use Rattle.ps_tokens.specs.OneToken.{BeginsInOneWay};
 
-/// The law that a text begins with one token at most, and that where none stands there is one cause.
+/// The law that a text begins with at most one token and that, if it begins with none, there is one cause.
 pub fn one_token()
     ensures { BeginsInOneWay }
 {}

@@ -1,5 +1,5 @@
-//! The tokens of a text for the painting machine: its bytes are parted into numbers, strings, names and
-//! procedures, up to the end or to the first bytes that begin no token.
+//! The tokens of a text for the painting machine: its bytes are split into numbers, strings, names and procedures, up
+//! to the end or to the first bytes that begin no token.
 #![tactic(auto)]
 
 pub mod body;

@@ -11,7 +11,7 @@ use mus_units::{Memory, Text};
 use ps_steps::{Hundredths, Number, SimpleToken};
 use std::alloc::Global;
 
-/// The number that digits write; none where it is past 128 bits.
+/// Returns the number that digits spell; `None` if it exceeds 128 bits.
 fn digits_number(ds: &[u8]) -> Option<u128>
     requires { some_digits ds.now ≡ true }
     ensures { MatchOption result (2 ^ 128 ≤ digits_value 10 ds.now) (λ v. v ≡ digits_value 10 ds.now) }
@@ -40,7 +40,7 @@ fn whole(value: i128) -> SimpleToken
     }
 }
 
-/// The number of a word that is a whole number.
+/// Returns the number of a word that is a whole number.
 fn whole_token(w: &[u8]) -> SimpleToken
     requires { is_whole w.now ≡ true }
     ensures { result ≡ whole_number (number_written w.now) }
@@ -57,7 +57,7 @@ fn whole_token(w: &[u8]) -> SimpleToken
     }
 }
 
-/// Digits without their point.
+/// Returns digits without their point.
 fn without_point(alloc: Global, digits: &[u8]) -> Result<Text, Memory>
     ensures { IfOk result (λ t. t ≡ without_point digits.now) }
 {
@@ -76,7 +76,7 @@ fn hundredths(count: i128) -> SimpleToken
     }
 }
 
-/// The number of a word that is a number with a point, in hundredths.
+/// Returns the number of a word that is a number with a point, in hundredths.
 fn pointed_token(alloc: Global, w: &[u8]) -> Result<SimpleToken, Memory>
     requires { is_pointed w.now ≡ true }
     ensures { IfOk result (λ t. t ≡ pointed_number (hundredths_written w.now)) }
@@ -94,7 +94,7 @@ fn pointed_token(alloc: Global, w: &[u8]) -> Result<SimpleToken, Memory>
     }
 }
 
-/// The token that a word is.
+/// Returns the token that a word is.
 pub fn word_token(alloc: Global, w: &[u8]) -> Result<Option<SimpleToken>, Memory>
     ensures { IfOk result (λ t. t ≡ word_token w.now) }
 {

@@ -9,8 +9,8 @@ use mus_units::{Memory, Row};
 use ps_steps::{Cause, MachineToken};
 use std::alloc::Global;
 
-/// The tokens of a text, in order, up to its end or to the first bytes that
-/// begin no token: `fault` is why those don't, and none where the text ends.
+/// The tokens of a text, in order, up to its end or to the first bytes that begin no token: `fault` says why those
+/// bytes begin none, and is `None` if the text ends.
 #[derive(Drop)]
 pub struct Program {
     pub tokens: Row<MachineToken>,

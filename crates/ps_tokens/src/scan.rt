@@ -8,25 +8,28 @@ ghost use Rattle.ps_steps.specs.Tokens.{some_digits, unsigned, is_whole, is_frac
 
 use mus_units::bytes::{is_digit, is_letter};
 
+/// Returns whether a byte is a space, a tab, a CR or an LF.
 pub fn is_blank(b: u8) -> bool
     ensures { result ≡ is_white_space b }
 {
     b == b' ' || b == b'\t' || b == b'\r' || b == b'\n'
 }
 
+/// Returns whether a byte is a parenthesis, a brace, a slash or a %.
 pub fn is_delimiter(b: u8) -> bool
     ensures { result ≡ is_delimiter b }
 {
     b == b'(' || b == b')' || b == b'{' || b == b'}' || b == b'/' || b == b'%'
 }
 
+/// Returns whether a byte is one of a word.
 pub fn is_regular(b: u8) -> bool
     ensures { result ≡ is_regular b }
 {
     !(is_blank(b) || is_delimiter(b))
 }
 
-/// The bytes without the blanks and comments at their front.
+/// Returns the bytes after the leading blanks and comments.
 pub fn skip(bytes: &[u8]) -> &[u8]
     ensures passed { result.now ≡ passed false bytes.now }
     ensures starts { begins is_skipped result.now ≡ false }
@@ -53,7 +56,7 @@ fn word_len(bytes: &[u8]) -> usize
     bytes.iter().take_while(|b| is_regular(**b)).count()
 }
 
-/// The word at the front, which may be empty, and what stands behind it.
+/// Splits the bytes into their first word, which may be empty, and the rest.
 pub fn word(bytes: &[u8]) -> (&[u8], &[u8])
     ensures cut { bytes.now ≡ result.0.now ++ result.1.now }
     ensures regular { list_all is_regular result.0.now ≡ true }
@@ -74,7 +77,7 @@ fn are_some_digits(w: &[u8]) -> bool
     !w.is_empty() && are_digits(w)
 }
 
-/// The word without a minus in front.
+/// Returns the word without a leading minus.
 pub fn unsigned(w: &[u8]) -> &[u8]
     ensures { result.now ≡ unsigned w.now }
 {
@@ -84,6 +87,7 @@ pub fn unsigned(w: &[u8]) -> &[u8]
     }
 }
 
+/// Returns whether a word is a whole number.
 pub fn is_whole(w: &[u8]) -> bool
     ensures { result ≡ is_whole w.now }
 {
@@ -96,6 +100,7 @@ fn are_letters_or_digits(w: &[u8]) -> bool
     w.iter().all(|c| is_letter(*c) || is_digit(*c))
 }
 
+/// Returns whether a word is a name.
 pub fn is_name(w: &[u8]) -> bool
     ensures { result ≡ is_name w.now }
 {
@@ -114,6 +119,7 @@ fn is_fraction(w: &[u8]) -> bool
     }
 }
 
+/// Returns whether a word is a number with a point.
 pub fn is_pointed(w: &[u8]) -> bool
     ensures { result ≡ is_pointed w.now }
 {

@@ -11,8 +11,8 @@ use mus_units::{Memory, Text};
 use ps_steps::{Cause, SimpleToken};
 use std::alloc::Global;
 
-/// What stands at the front of bytes within a string: a byte as it is spelled, the closing parenthesis,
-/// the beginning of a spelled byte and then the end of the bytes, or nothing that a string has.
+/// What the bytes within a string begin with: a spelled byte, the closing parenthesis, the beginning of a spelled
+/// byte cut off by the end of the bytes, or something that no string has.
 #[derive(Drop)]
 pub enum Spelling<'a> {
     Byte(u8, &'a [u8]),
@@ -27,14 +27,14 @@ fn is_special(b: u8) -> bool
     b == b'(' || b == b')' || b == b'\\'
 }
 
-/// A byte that stands for itself.
+/// Returns whether a byte stands for itself.
 fn is_bare(b: u8) -> bool
     ensures { result ≡ is_bare b }
 {
     b' ' <= b && b <= b'~' && !is_special(b)
 }
 
-/// A first octal digit.
+/// Returns whether a byte is the first octal digit of a spelled byte.
 fn is_lead(b: u8) -> bool
     ensures { result ≡ is_lead b }
 {
@@ -50,7 +50,7 @@ fn is_octal(b: u8) -> bool
 /// The first of the bytes that are spelled by three octal digits.
 const FIRST_HIGH: u8 = 160;
 
-/// Behind a backslash and two octal digits.
+/// Reads on after a backslash and two octal digits.
 fn third(a: u8, b: u8, bytes: &[u8]) -> Spelling<'_>
     requires lead { is_lead a ≡ true }
     requires octal { is_octal b ≡ true }
@@ -72,7 +72,7 @@ fn third(a: u8, b: u8, bytes: &[u8]) -> Spelling<'_>
     }
 }
 
-/// Behind a backslash and a byte that is no parenthesis and no backslash.
+/// Reads on after a backslash and a byte that is neither a parenthesis nor a backslash.
 fn second(a: u8, bytes: &[u8]) -> Spelling<'_>
     requires { is_special a ≡ false }
     ensures { IsSpelling (92 ∷ a ∷ bytes.now) result }
@@ -92,7 +92,7 @@ fn second(a: u8, bytes: &[u8]) -> Spelling<'_>
     }
 }
 
-/// Behind a backslash.
+/// Reads on after a backslash.
 fn escaped(bytes: &[u8]) -> Spelling<'_>
     ensures { IsSpelling (92 ∷ bytes.now) result }
 {
@@ -108,7 +108,7 @@ fn escaped(bytes: &[u8]) -> Spelling<'_>
     }
 }
 
-/// What stands at the front of bytes within a string.
+/// Reads what the bytes within a string begin with.
 fn read_spelling(bytes: &[u8]) -> Spelling<'_>
     ensures { IsSpelling bytes.now result }
 {
@@ -128,7 +128,7 @@ fn read_spelling(bytes: &[u8]) -> Spelling<'_>
     }
 }
 
-/// What stands behind a `(`.
+/// Reads what follows a `(`.
 pub fn string(alloc: Global, bytes: &[u8]) -> Result<TokenStart<'_>, Memory>
     ensures { IfOk result (λ r. Front (40 ∷ bytes.now) (read_of r)) }
 {
