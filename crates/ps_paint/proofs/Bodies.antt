@@ -37,7 +37,7 @@ vl_body = call (codes "m") ∷ call (codes "l") ∷ op stroke_op ∷ []
 abbrev pub st_body : List SimpleToken
 st_body = op gsave_op ∷ op translate_op ∷ call (codes "m") ∷ call (codes "l") ∷ op stroke_op ∷ op grestore_op ∷ []
 
--- a beam's, whose edge is so far from the ends of its line
+-- the procedure of a beam, with the offset of its edge from the ends of its line
 abbrev pub beam_body : ℤ → List SimpleToken
 beam_body d =
     op gsave_op ∷ whole_token d ∷ whole_token (pos 0) ∷ op translate_op ∷ call (codes "m") ∷ call (codes "l")
@@ -46,7 +46,7 @@ beam_body d =
 abbrev pub ac_body : List SimpleToken
 ac_body = call (codes "m") ∷ call (codes "c") ∷ op stroke_op ∷ []
 
--- the font in a size is set
+-- the tokens that set the font in a size
 abbrev pub font_tokens : ℤ → List SimpleToken
 font_tokens size =
     label_token (codes "EngFont") ∷ op findfont_op ∷ whole_token size ∷ op scalefont_op ∷ op setfont_op ∷ []
@@ -87,7 +87,7 @@ abbrev pub glyph_body : Glyph → List SimpleToken
 glyph_body g =
     op gsave_op ∷ op translate_op ∷ op translate_op ∷ flat_map step_tokens (outline_of g) ++ op grestore_op ∷ []
 
--- the procedures were made for a frame, and no operator's name was given one
+-- the procedures were defined for a frame, and no operator's name is defined
 pub record Made (f : Frame) (ds : Names) : Type 0 where
   pub frame : IsFrame f
   pub free : (o : Operator) → ds (operator_name o) ≡ None

@@ -1,4 +1,4 @@
--- Comment lines: they are passed over.
+-- Comment lines: they are skipped.
 use Rattle.std.proofs.Common.{◌≡◌, ℕ, Bool, true, false, List, [], ◌∷◌, ◌++◌, append_assoc, refl, ◌∙◌, arith, decimal}
 use Rattle.std.proofs.Common.{not, ◌==◌}
 use Rattle.std.proofs.lemmas.Bool.Decides.{nat_tests}
@@ -10,7 +10,7 @@ use Rattle.ps_steps.specs.State.{State}
 use Rattle.ps_steps.specs.Steps.{state_before, here}
 use Rattle.ps_paint.proofs.Takes.{Takes, decimal_digits, digits_pass}
 
--- other than LF
+-- a byte other than LF
 abbrev pub in_line : ℕ → Bool
 in_line b = not (b == 10)
 

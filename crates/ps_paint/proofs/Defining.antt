@@ -75,7 +75,7 @@ takes_body body ts m b = record {
       (step 0 (state_before m (123 ∷ s)) (state_before k rest) (state_before k rest) one (here (state_before k rest)));
 }
 
--- it makes the definition, in three tokens
+-- the line makes the definition, in three tokens
 pub takes_definition : (name body : List ℕ) (ts : List SimpleToken) (m : State)
     → IsNewName name → ((rest : List ℕ) → Body (body ++ 125 ∷ rest) ts rest) → m.names (codes "def") ≡ None
     → Takes 3 (definition name body) m (record m { names = defined name ts m.names })

@@ -1,4 +1,4 @@
--- What holds of the name and of the outline of each glyph.
+-- What holds for the name and for the outline of each glyph.
 use Rattle.std.{proofs.Common.{◌≡◌, true, false, Some, refl, codes, nat_le, ◌==◌}, specs.{List.list_all, Str.bytes_eq}}
 use Rattle.mus_units.specs.declared.glyph.Glyph.{Glyph}
 use Rattle.glyph_paths.specs.Names.{glyph_name}
@@ -7,7 +7,7 @@ use Rattle.ps_steps.specs.Tokens.{is_regular, is_name, begins, word_token}
 use Rattle.ps_steps.specs.declared.token.SimpleToken.TheVariants.{Name as name_token}
 use Rattle.ps_paint.proofs.Glyphs.{are_small, is_drawn, cost}
 
--- its name may be defined, is no operator of the prolog's lines, and its outline is drawn in a few tokens
+-- its name may be defined and isn't an operator of the prolog's lines, and its outline is drawn in a few tokens
 pub record IsFine (g : Glyph) : Type 0 where
   pub regular : list_all is_regular (glyph_name g) ≡ true
   pub good : is_name (glyph_name g) ≡ true

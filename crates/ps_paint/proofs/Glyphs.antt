@@ -36,7 +36,7 @@ is_drawn b (PathOp.Fill ∷ rest) = b && is_drawn false rest
 is_drawn b (PathOp.Stroke ∷ rest) = b && is_drawn false rest
 is_drawn b (s ∷ rest) = b && is_drawn true rest
 
--- tokens that the steps of a path and a grestore execute
+-- the number of tokens that the steps of a path and a grestore execute
 abbrev pub cost : List PathOp → ℕ
 cost [] = 1
 cost (PathOp.Move x y ∷ rest) = 2 + (2 + cost rest)

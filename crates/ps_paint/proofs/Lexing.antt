@@ -19,7 +19,7 @@ body_passed : (s u : List ℕ) (ts : List SimpleToken) (r : List ℕ)
 body_passed _ u _ r e (closes s _ f) = closes u r (rw e f)
 body_passed _ u _ r e (goes_on s q _ t ts f b) = goes_on u q r t ts (rw e f) b
 
--- before what is in a procedure, the text is these tokens of it
+-- before the rest of a procedure, the text is these tokens of it
 pub record Lexes (text : List ℕ) (ts : List SimpleToken) : Type 0 where
   pub lex : (rest after : List ℕ) (us : List SimpleToken) → Body rest us after → Body (text ++ rest) (ts ++ us) after
 
@@ -32,7 +32,7 @@ both_lexed {s} {t} {ts} {us} x y = record {
       rw (append_assoc s t rest, append_assoc ts us vs) (x.lex (t ++ rest) after (us ++ vs) (y.lex rest after vs b));
 }
 
--- a name that may be defined: it begins otherwise than the font's line
+-- a name that may be defined: it doesn't begin like the font's line
 pub record IsNewName (name : List ℕ) : Type 0 where
   pub regular : list_all is_regular name ≡ true
   pub good : is_name name ≡ true
@@ -57,7 +57,7 @@ lex_one {t} {w} {b} i p = record {
       (body_passed rest (b ∷ rest) us after (p.passes rest) x));
 }
 
--- with its last token the procedure ends
+-- the procedure ends with its last token
 pub ends : {text last : List ℕ} {ts : List SimpleToken} {t : SimpleToken}
     → Lexes text ts → Stands t last → (rest : List ℕ) → Body ((text ++ last) ++ 125 ∷ rest) (ts ++ t ∷ []) rest
 ends {text} {last} {ts} {t} x i rest =
@@ -108,7 +108,7 @@ piece_stands (b ∷ w) t e = by_test (b == 47) refl e
     by_test true h k = let same : b ≡ 47 = grind (arith, nat_tests) in rw same (label_is w t k)
     by_test false h k = word_is b w t k
 
--- the pieces of a text in which a space stands behind each
+-- the pieces of a text in which a space follows each piece
 abbrev cut : List ℕ → List ℕ → List (List ℕ)
 cut w [] = []
 cut w (b ∷ s) = elim (b == 32) [ true ↦ w ∷ cut [] s | false ↦ cut (w ++ b ∷ []) s ]
@@ -134,7 +134,7 @@ pub lexed : (text : List ℕ) (ts : List SimpleToken)
     → spaced (pieces_of text) ≡ text → map piece_token (pieces_of text) ≡ map (λ t. Some t) ts → Lexes text ts
 lexed text ts e f = subst (λ s. Lexes s ts) e (pieces_lexed (pieces_of text) ts f)
 
--- a fixed text up to its last token, and that
+-- a fixed text up to its last token, and that token
 pieces_end : (ws : List (List ℕ)) (w : List ℕ) (ts : List SimpleToken)
     → map piece_token (ws ++ w ∷ []) ≡ map (λ t. Some t) ts → (rest : List ℕ)
     → Body ((spaced ws ++ w) ++ 125 ∷ rest) ts rest

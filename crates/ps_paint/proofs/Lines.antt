@@ -25,7 +25,7 @@ use Rattle.ps_paint.proofs.Takes.{Takes, IsTokenWord, nothing_taken, both_taken,
 abbrev pub on_page : Frame → Names → List Operand → List Graphics → List Paint → List PagePaint → State
 on_page f ds st saved ps pages = page ds st (corner f (pos 900)) saved ps pages
 
--- a text leads from one state to another, in at most 100 tokens a byte
+-- a text leads from one state to another, in at most 100 tokens per byte
 pub record Leads (text : List ℕ) (m k : State) : Type 0 where
   pub count : ℕ
   pub few : count ≤ 100 * length text
@@ -46,7 +46,7 @@ pub record Draws (f : Frame) (ds : Names) (text : List ℕ) (new : List Paint) :
   pub draw : (st : List Operand) (saved : List Graphics) (ps : List Paint) (pages : List PagePaint)
       → Leads text (on_page f ds st saved ps pages) (on_page f ds st saved (ps ++ new) pages)
 
--- what is passed over draws nothing
+-- what is skipped draws nothing
 pub passed_over : {f : Frame} {ds : Names} {text : List ℕ} → ((m : State) → Takes 0 text m m) → Draws f ds text []
 passed_over {f} {ds} t =
     record { draw = λ st saved ps pages. rw (append-nil ps) (stays (t (on_page f ds st saved ps pages))) }
@@ -61,7 +61,7 @@ both_drawn {a = a} u v = record {
       both_lead (u.draw st saved ps pages) (rw append_assoc at (v.draw st saved (ps ++ a) pages));
 }
 
--- each of a list is drawn
+-- each element of a list is drawn
 pub all_drawn : {f : Frame} {ds : Names} {A : Type 0} {P : A → Type 0} {text : A → List ℕ} {paint : A → List Paint}
     → ((x : A) → P x → Draws f ds (text x) (paint x)) → (xs : List A) → All P xs
     → Draws f ds (flat_map text xs) (flat_map paint xs)

@@ -15,7 +15,7 @@ use Rattle.ps_paint.specs.PaintOf.{edge}
 use Rattle.ps_paint.proofs.Runs.{op}
 use Rattle.ps_paint.proofs.Bodies.{Made, sf_body, vl_body, st_body, beam_body, ac_body, size_body, pg_body, glyph_body}
 
--- the names of its fixed lines and their procedures, in their order
+-- the names of its fixed lines and their procedures, in order
 abbrev pub fixed_bodies : List (List ℕ × List SimpleToken)
 fixed_bodies =
     (codes "m", op moveto_op ∷ []) ∷ (codes "l", op lineto_op ∷ []) ∷ (codes "c", op curveto_op ∷ [])
@@ -32,11 +32,11 @@ with_bodies (b ∷ bs) ds = with_bodies bs (defined b.0 b.1 ds)
 abbrev pub with_fixed : Names
 with_fixed = with_bodies fixed_bodies no_names
 
--- and that of a page's beginning
+-- and the definition of a page's beginning
 abbrev pub with_pg : Frame → Names
 with_pg f = defined (codes "pg") (pg_body f) with_fixed
 
--- then those of glyphs
+-- then the definitions of glyphs
 abbrev pub with_glyphs : List Glyph → Names → Names
 with_glyphs [] ds = ds
 with_glyphs (g ∷ gs) ds = with_glyphs gs (defined (glyph_name g) (glyph_body g) ds)

@@ -45,7 +45,7 @@ use Rattle.ps_paint.proofs.Starts.{between}
 use Rattle.ps_paint.proofs.Lines.{Leads}
 use Rattle.ps_paint.specs.PaintOf.{edge}
 
--- a state in which nothing was done but definitions
+-- a state in which only definitions were made
 abbrev pub being : Names → Bool → State
 being ds made =
     record { stack = []; names = ds; made = made; now = first_graphics; saved = []; paints = []; pages = [] }
@@ -119,7 +119,7 @@ glyphs_taken (g ∷ gs) ds free =
     let count : 3 + 3 * length gs ≡ 3 * length {A = Glyph} (g ∷ gs) = omega arith in
     rw count at (both_taken (takes_glyph g (being ds true) free) (glyphs_taken gs es still))
 
--- a percent with two decimals
+-- a percentage with two decimals
 digit_small : (a : ℕ) → a < 10 → is_digit (48 + a) ≡ true
 digit_small a l = grind (arith, nat_tests)
 

@@ -1,4 +1,4 @@
--- Runs over the tokens of procedures, put together.
+-- Runs over the tokens of procedures, joined together.
 use Rattle.std.proofs.Common.{◌≡◌, ℕ, suc, ◌+◌, ℤ, true, List, [], ◌∷◌, ◌++◌, length, append_assoc, Some, None, refl}
 use Rattle.ps_steps.specs.declared.token.SimpleToken.{SimpleToken}
 use Rattle.ps_steps.specs.declared.token.SimpleToken.TheVariants.{Name as name_token, Whole as whole_token}
@@ -37,7 +37,7 @@ pub then : {n : ℕ} {t : SimpleToken} {ts : List SimpleToken} {m k l : State}
 then {n} {t} {ts} {m} {k} {l} e r =
     record { run = λ rest s. step n _ (now (ts ++ rest) k s) _ (simple_step t (ts ++ rest) [] m k s e) (r.run rest s) }
 
--- a name that was given a procedure
+-- a name that is defined as a procedure
 pub calls : {n : ℕ} {name : List ℕ} {body : List SimpleToken} {m k : State}
     → m.names name ≡ Some body → Runs n body m k → Runs (suc n) (name_token name ∷ []) m k
 calls {n} {name} {body} {m} h r = record {
@@ -61,7 +61,7 @@ named : (o : Operator) → operator_named (operator_name o) ≡ Some o
 named def_op = refl
 named _ = refl
 
--- what it does, where its name was given no procedure
+-- what it does, if its name isn't defined
 pub does : (m : State) {k : State} (o : Operator)
     → m.names (operator_name o) ≡ None → operated o m ≡ went [] k → executed (simple_token (op o)) m ≡ went [] k
 does m o h e = rw (h, named o) e

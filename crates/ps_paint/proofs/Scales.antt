@@ -33,7 +33,7 @@ bounded (suc p) x c =
 pub near : (z : ℤ) → negsuc 1152921504606846975 ≤ℤ z → z ≤ℤ pos 1152921504606846976 → is_near z ≡ true
 near z l h = grind (arith, ints)
 
--- a from v comes to p, a place of a page
+-- a, from v, comes to p, a place on a page
 pub record Comes (v a p : ℤ) : Type 0 where
   pub is : v +ℤ a ≡ p
   pub close : IsClose p

@@ -21,7 +21,7 @@ use Rattle.ps_paint.proofs.Draws.{drawing, page, moves, lines, saves, restores, 
 use Rattle.ps_paint.proofs.{Draws.{strokes, has_path}, Lines.{Draws, line_drawn, page_near}}
 
 module _ {f : Frame} {ds : Names} (made : Made f ds) where
-  -- a line of a staff at y, behind others
+  -- a line of a staff at y, after others
   next_rule : {w y up v : ℤ} {path : List Seg} {st : List Operand} {saved : List Graphics} {ps : List Paint}
       {pages : List PagePaint}
       → IsNumber w → Comes y up v

@@ -1,4 +1,4 @@
--- The tokens of texts that are written: a text that is tokens with blanks behind them.
+-- The tokens of texts that are written: a text that is tokens, each followed by a blank.
 use Rattle.std.proofs.Common.{◌≡◌, ℕ, zero, suc, ◌+◌, ◌/◌, ◌%◌, ◌<◌, ◌≤◌, ◌^◌, ℤ, pos, negsuc, true, false, Bool, List}
 use Rattle.std.proofs.Common.{[], ◌∷◌, ◌++◌, length, append_assoc, Some, None, refl, sym, arith, decimal, ◌==◌}
 use Rattle.std.proofs.Math.IntN.{neg_ℤ}
@@ -39,7 +39,7 @@ both_taken {a} {b} {s} {t} {m} {k} {l} u v = record {
       rw (append_assoc s t rest) (joined a b _ (state_before k (t ++ rest)) _ (u.take (t ++ rest)) (v.take rest));
 }
 
--- the word stands at the front, whatever stands behind the byte after it
+-- the text begins with the word, whatever follows the byte after it
 pub word_at : (w rest : List ℕ) (b : ℕ)
     → 1 ≤ length w → list_all is_regular w ≡ true → is_regular b ≡ false → IsWord (w ++ b ∷ rest) w (b ∷ rest)
 word_at w rest b some regular stop = record { some = some; regular = regular; cut = refl; maximal = stop }
@@ -51,7 +51,7 @@ name_some (b ∷ w) e = omega arith
 skip_regular : (b : ℕ) (s : List ℕ) → is_regular b ≡ true → passed false (b ∷ s) ≡ b ∷ s
 skip_regular b s e = grind (arith, nat_tests)
 
--- a word is no blank and no comment
+-- a word is neither a blank nor a comment
 word_stays : (w rest : List ℕ) → 1 ≤ length w → list_all is_regular w ≡ true → passed false (w ++ rest) ≡ w ++ rest
 word_stays [] rest l e = absurd (omega arith)
 word_stays (b ∷ w) rest l e = skip_regular b (w ++ rest) ((and_parts (is_regular b) (list_all is_regular w) e).0)
@@ -122,7 +122,7 @@ number_word (negsuc n) near =
       token = rw (minus_word (decimal (suc n)) (decimal_nonempty (suc n) small) digits, value, near) refl;
     }
 
--- a byte that is passed over
+-- a byte that is skipped
 pub record IsPassed (b : ℕ) : Type 0 where
   pub stop : is_regular b ≡ false
   pub passes : (s : List ℕ) → passed false (b ∷ s) ≡ passed false s
@@ -133,7 +133,7 @@ space_passed = record { stop = refl; passes = λ s. refl }
 pub line_end_passed : IsPassed 10
 line_end_passed = record { stop = refl; passes = λ s. refl }
 
--- these bytes are the token, whatever stands behind the byte after them
+-- these bytes are the token, whatever follows the byte after them
 pub record Stands (t : SimpleToken) (w : List ℕ) : Type 0 where
   pub front : (b : ℕ) (rest : List ℕ) → is_regular b ≡ false → Front (passed false (w ++ b ∷ rest)) (found t (b ∷ rest))
 

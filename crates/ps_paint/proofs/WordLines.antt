@@ -57,7 +57,7 @@ size_word : (size : Size) → IsTokenWord (name_token (size_name size)) (size_na
 size_word Size.Small = record { some = omega arith; regular = refl; token = refl }
 size_word Size.Big = record { some = omega arith; regular = refl; token = refl }
 
--- how many tokens the procedure of a size executes
+-- the number of tokens that the procedure of a size executes
 size_cost : Size → ℕ
 size_cost Size.Small = 6
 size_cost Size.Big = 11
@@ -89,7 +89,7 @@ module _ {f : Frame} {ds : Names} (made : Made f ds) {saved : List Graphics} {ps
       acts show_op (made.free show_op)
       (is_in_range ((font_height size *ℤ pos f.scale) ∷ []) _ (rw (near_size f size made.frame) refl))
 
--- from behind the gsave, with the font of the size
+-- from after the gsave, with the font of the size
 places_words : {f : Frame} {ds : Names} (made : Made f ds) {saved : List Graphics} {ps : List Paint}
     {pages : List PagePaint} {st : List Operand} {g : Graphics} (size : Size) (x y : ℤ) {dx dy p q : ℤ} (words : List ℕ)
     → Comes (pos 0) x x → Comes (pos 0) y y → Comes x dx p → Comes y dy q → Runs 5 shown_tokens

@@ -1,5 +1,5 @@
--- The law of the painting machine about documents: a text that a sheet spells paints that sheet,
--- within 100 tokens a byte.
+-- The painting machine's law about documents: a text that a sheet spells paints that sheet, within 100 tokens per
+-- byte.
 use Rattle.std.specs.Prelude.{◌≤◌, ◌*◌, ℕ, List, length}
 use Rattle.ps_text.specs.Document.{SpellsSheet}
 use Rattle.ps_text.specs.declared.sheet.Sheet.{Sheet}

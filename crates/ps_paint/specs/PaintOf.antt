@@ -1,5 +1,5 @@
--- What a sheet paints, in 1/10000 point: for each page, item by item and mark by mark, the paths that are filled or
--- stroked and the words that are shown.
+-- What a sheet paints, in 1/10000 point: for each page, item by item and mark by mark, the filled or stroked paths
+-- and the words shown.
 use Rattle.std.specs.Prelude.{ℕ, ℤ, pos, ◌*◌, ◌+ℤ◌, ◌-ℤ◌, ◌*ℤ◌, List, [], ◌∷◌, ◌++◌, map}
 use Rattle.std.specs.List.{flat_map}
 use Rattle.mus_units.specs.declared.glyph.Size.{Size}
@@ -16,7 +16,8 @@ use Rattle.ps_text.specs.declared.sheet.Page.{Page}
 use Rattle.ps_text.specs.declared.sheet.Sheet.{Sheet}
 use Rattle.ps_steps.specs.declared.paint.{Seg.Seg, Paint.Paint, PagePaint.PagePaint}
 
--- where an abscissa and a height of a page come to lie: 100 times the margin, plus the percent of the scale times them
+-- the painted place of an abscissa and of a height of a page: 100 times the margin, plus the percentage of the scale
+-- times the abscissa or height
 abbrev pub to_x : Frame → ℤ → ℤ
 to_x f v = pos (100 * f.left) +ℤ (pos f.scale *ℤ v)
 
@@ -41,7 +42,7 @@ stroked f path = Paint.Stroke (pos 60 *ℤ pos f.scale) path
 abbrev pub filled_paint : List Seg → Paint
 filled_paint path = Paint.Fill (path ++ Seg.Close ∷ [])
 
--- how large words are, in u
+-- the height of words, in u
 abbrev pub font_height : Size → ℤ
 font_height Size.Small = pos 900
 font_height Size.Big = pos 1600
@@ -50,8 +51,8 @@ font_height Size.Big = pos 1600
 abbrev pub words_paint : Frame → Size → ℤ → ℤ → List ℕ → Paint
 words_paint f size x y words = Paint.Show (font_height size *ℤ pos f.scale) (to_x f x) (to_y f y) words
 
--- an outline moved by (x, y), behind the pieces of the path that it goes on with: a paint for each Fill and each
--- Stroke, of the pieces since the last one
+-- an outline moved by (x, y), after the pieces of the path that it continues: a paint for each Fill and each Stroke,
+-- made of the pieces since the last one
 abbrev pub outline_paints : Frame → ℤ → ℤ → List Seg → List PathOp → List Paint
 outline_paints f x y path [] = []
 outline_paints f x y path (PathOp.Move a b ∷ rest) = outline_paints f x y (path ++ move f (x +ℤ a) (y +ℤ b) ∷ []) rest
@@ -65,7 +66,7 @@ outline_paints f x y path (PathOp.Stroke ∷ rest) = stroked f path ∷ outline_
 abbrev pub glyph_paints : Frame → ℤ → ℤ → List PathOp → List Paint
 glyph_paints f x y outline = outline_paints f x y [] outline
 
--- how far the edges of a beam are to the right of the ends of its line
+-- how far right of the ends of its line the edges of a beam are
 abbrev pub edge : Way → ℤ
 edge Way.Up = pos 280
 edge Way.Down = neg 280
@@ -76,7 +77,7 @@ abbrev pub beam_paint : Frame → ℤ → ℤ → ℤ → ℤ → Paint
 beam_paint f x1 a x2 b =
     filled_paint (move f x1 a ∷ line f x2 b ∷ line f x2 (b +ℤ pos 250) ∷ line f x1 (a +ℤ pos 250) ∷ [])
 
--- an arc from (x1, a) to (x2, b), whose inner points are a quarter of the way from its ends, and so far above them
+-- an arc from (x1, a) to (x2, b); its inner points are a quarter of the way from its ends, its bulge above them
 abbrev pub arc_paint : Frame → ℤ → ℤ → ℤ → ℤ → ℤ → Paint
 arc_paint f x1 a x2 b bulge =
     stroked f (move f x1 a ∷ curve f (x1 +ℤ quarter x1 x2) (a +ℤ bulge) (x2 -ℤ quarter x1 x2) (b +ℤ bulge) x2 b ∷ [])

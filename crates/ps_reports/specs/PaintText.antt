@@ -1,8 +1,7 @@
 -- The text of paints. For each page, counted from 1, a line `page k`, and then a line for each paint: `fill`, or
--- `stroke` and the width, and behind it each piece of the path as its numbers and `m`, `l`, `c` or `z`; or `show` with
--- size, x and y, and the words in parentheses, spelled as on a page. One space stands between two parts. A run that
--- halts has one line:
--- the number of tokens that were executed before, and the cause.
+-- `stroke` and the width, followed by each piece of the path as its numbers and `m`, `l`, `c` or `z`; or `show` with
+-- size, x and y, and the words in parentheses, spelled as on a page. Parts are separated by one space. A run that
+-- halts has one line: the number of tokens that were executed before, and the cause.
 use Rattle.std.specs.{Prelude.{ℕ, ℤ, List, [], ◌∷◌, ◌++◌, codes, decimal, flat_map}, Fmt.signed_decimal}
 use Rattle.ps_text.specs.Document.{numbered}
 use Rattle.ps_text.specs.Fields.{quoted}
@@ -11,7 +10,7 @@ use Rattle.ps_steps.specs.declared.paint.Seg.{Seg}
 use Rattle.ps_steps.specs.declared.paint.Paint.{Paint}
 use Rattle.ps_steps.specs.declared.paint.PagePaint.{PagePaint}
 
--- numbers in decimal, a space before each
+-- numbers in decimal, each after a space
 unfoldable pub spaced : List ℤ → List ℕ
 spaced zs = flat_map (λ z. 32 ∷ signed_decimal z) zs
 
@@ -45,6 +44,6 @@ cause_name Cause.Scale = codes "Scale"
 cause_name Cause.Range = codes "Range"
 cause_name Cause.Budget = codes "Budget"
 
--- the line of a run that halts
+-- the line for a run that halts
 abbrev pub halt_line : ℕ → Cause → List ℕ
 halt_line token cause = codes "halt at token " ++ decimal token ++ codes ": " ++ cause_name cause ++ codes "\n"

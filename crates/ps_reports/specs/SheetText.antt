@@ -1,5 +1,5 @@
--- What `inspect` prints of a sheet: a line for the frame, each page, each item, each staff and each mark, and last the
--- number of pages.
+-- What `inspect` prints for a sheet: a line for the frame, each page, each item, each staff and each mark, and last
+-- the number of pages.
 use Rattle.std.specs.Prelude.{ℕ, ℤ, pos, List, [], ◌∷◌, ◌++◌, length, codes, decimal}
 use Rattle.std.specs.List.{flat_map}
 use Rattle.mus_units.specs.declared.glyph.Size.{Size}
@@ -15,19 +15,19 @@ use Rattle.ps_text.specs.declared.sheet.Item.{Item}
 use Rattle.ps_text.specs.declared.sheet.Page.{Page}
 use Rattle.ps_text.specs.declared.sheet.Sheet.{Sheet}
 
--- a line of a kind and numbers
+-- a line with a kind and numbers
 unfoldable pub plain_line : List ℕ → List ℤ → List ℕ
 plain_line kind zs = kind ++ spaced zs ++ 10 ∷ []
 
--- a line of a kind, a name and numbers
+-- a line with a kind, a name and numbers
 unfoldable pub named_line : List ℕ → List ℕ → List ℤ → List ℕ
 named_line kind name zs = kind ++ name ++ spaced zs ++ 10 ∷ []
 
--- a line of a kind, a size, a place and words
+-- a line with a kind, a size, a place and words
 unfoldable pub report_words_line : List ℕ → Size → List ℤ → List ℕ → List ℕ
 report_words_line kind size zs words = kind ++ size_name size ++ spaced zs ++ 32 ∷ quoted words ++ 10 ∷ []
 
--- a mark: its kind, its name or its words, where it stands and what it is
+-- a mark: its kind, its name or its words, and its numbers
 abbrev pub mark_report : PageMark → List ℕ
 mark_report (PageMark.Glyph glyph x dx dy) = named_line (codes "glyph ") (glyph_name glyph) (x ∷ dx ∷ dy ∷ [])
 mark_report (PageMark.Words size x dx dy text) = report_words_line (codes "text ") size (x ∷ dx ∷ dy ∷ []) text

@@ -1,4 +1,4 @@
-//! The line of a run that halts.
+//! The line for a run that halts.
 
 ghost use Rattle.std.specs.Prelude.{◌≡◌, ◌++◌, OnOk};
 ghost use Rattle.ps_reports.specs.PaintText.{cause_name, halt_line};
@@ -7,7 +7,7 @@ use eng_lines::put_number;
 use mus_units::{Memory, Text};
 use ps_steps::Cause;
 
-/// The name of a cause, as the line has it.
+/// Returns the name of a cause, as printed in the line.
 pub fn cause_name(cause: Cause) -> &'static [u8]
     ensures { result.now ≡ cause_name cause }
 {
@@ -25,8 +25,8 @@ pub fn cause_name(cause: Cause) -> &'static [u8]
     }
 }
 
-/// Adds the line `halt at token K: CAUSE` of a run that halts after so many
-/// tokens. At an error a part of it was added.
+/// Adds the line `halt at token K: CAUSE` for a run that halts after `token` tokens. On an error, part of the line
+/// was added.
 pub fn put_halt(out: &mut Text, token: u64, cause: Cause) -> Result<(), Memory>
     ensures { OnOk result (out.new ≡ out.old ++ halt_line token cause) }
 {

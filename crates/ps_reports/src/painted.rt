@@ -11,7 +11,7 @@ use mus_units::{Memory, Text};
 use ps_steps::{PagePaint, Paint, Seg};
 use ps_text::fields::put_quoted;
 
-/// Adds a number, with a space before it.
+/// Adds a number after a space.
 fn put_spaced_one(out: &mut Text, number: i64) -> Result<(), Memory>
     ensures { OnOk result (out.new ≡ out.old ++ 32 ∷ signed_decimal number) }
 {
@@ -20,7 +20,7 @@ fn put_spaced_one(out: &mut Text, number: i64) -> Result<(), Memory>
     out.append(buffer.format(number).as_bytes())
 }
 
-/// Adds numbers in decimal, a space before each. At an error a part of it was added.
+/// Adds numbers in decimal, each after a space. On an error, part of the text was added.
 #[tactic(auto, unfolding(crate::specs::PaintText::spaced))]
 pub fn put_spaced(out: &mut Text, numbers: &[i64]) -> Result<(), Memory>
     ensures { OnOk result (out.new ≡ out.old ++ spaced numbers.now) }
@@ -116,7 +116,7 @@ fn put_paints(out: &mut Text, paints: &[Paint]) -> Result<(), Memory>
     Ok(())
 }
 
-/// Adds the lines of a page, the one of that ordinal.
+/// Adds the lines of a page, with ordinal `k`.
 fn put_page(out: &mut Text, k: u64, page: &PagePaint) -> Result<(), Memory>
     ensures { OnOk result (out.new ≡ out.old ++ painted_page k page.now) }
 {
@@ -126,8 +126,8 @@ fn put_page(out: &mut Text, k: u64, page: &PagePaint) -> Result<(), Memory>
     put_paints(out, page.paints.as_slice())
 }
 
-/// Adds the text of pages: a line `page k` for each, counted from 1, and a line
-/// for each of its paints. At an error a part of it was added.
+/// Adds the text of pages: a line `page k` for each, counted from 1, and a line for each of its paints. On an error,
+/// part of the text was added.
 pub fn put_pages(out: &mut Text, pages: &[PagePaint]) -> Result<(), Memory>
     ensures { OnOk result (out.new ≡ out.old ++ paint_text pages.now) }
 {

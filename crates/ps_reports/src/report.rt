@@ -13,7 +13,7 @@ use ps_text::names::{size_name_of, way_name_of};
 use ps_text::{Frame, Item, Page, PageMark, Sheet, Staff};
 use std::alloc::Global;
 
-/// Adds a line of a kind and numbers.
+/// Adds a line with a kind and numbers.
 #[tactic(auto, unfolding(crate::specs::SheetText::plain_line))]
 fn put_plain(out: &mut Text, kind: &[u8], zs: &[i64]) -> Result<(), Memory>
     ensures { OnOk result (out.new ≡ out.old ++ plain_line kind.now zs.now) }
@@ -23,7 +23,7 @@ fn put_plain(out: &mut Text, kind: &[u8], zs: &[i64]) -> Result<(), Memory>
     out.push(b'\n')
 }
 
-/// Adds a line of a kind, a name and numbers.
+/// Adds a line with a kind, a name and numbers.
 #[tactic(auto, unfolding(crate::specs::SheetText::named_line))]
 fn put_named(out: &mut Text, kind: &[u8], name: &[u8], zs: &[i64]) -> Result<(), Memory>
     ensures { OnOk result (out.new ≡ out.old ++ named_line kind.now name.now zs.now) }
@@ -34,7 +34,7 @@ fn put_named(out: &mut Text, kind: &[u8], name: &[u8], zs: &[i64]) -> Result<(),
     out.push(b'\n')
 }
 
-/// Adds a line of a kind, a count and numbers.
+/// Adds a line with a kind, a count and numbers.
 #[tactic(auto, unfolding(crate::specs::SheetText::named_line))]
 fn put_counted(out: &mut Text, kind: &[u8], count: u64, zs: &[i64]) -> Result<(), Memory>
     ensures { OnOk result (out.new ≡ out.old ++ named_line kind.now (decimal count) zs.now) }
@@ -45,7 +45,7 @@ fn put_counted(out: &mut Text, kind: &[u8], count: u64, zs: &[i64]) -> Result<()
     out.push(b'\n')
 }
 
-/// Adds a line of a kind, a size, a place and words.
+/// Adds a line with a kind, a size, a place and words.
 #[tactic(auto, unfolding(crate::specs::SheetText::report_words_line))]
 fn put_words_line(
     out: &mut Text,
@@ -210,8 +210,8 @@ fn put_frame(out: &mut Text, frame: Frame) -> Result<(), Memory>
     put_plain(out, b"frame", &zs)
 }
 
-/// The lines that tell all that a sheet shows: its frame, and for each page its
-/// tunes, titles, systems, staves and marks in order; all lengths are in u.
+/// Adds the lines for all that a sheet shows: its frame, and for each page its tunes, titles, systems, staves and
+/// marks in order. All lengths are in u.
 #[tactic(auto, unfolding(crate::specs::SheetText::sheet_report))]
 pub fn report_of(alloc: Global, sheet: &Sheet) -> Result<Text, Memory>
     ensures { IfOk result (λ t. t ≡ sheet_report sheet.now) }
