@@ -1,4 +1,4 @@
--- A text is cut into good lines in one way.
+-- A text is split into good lines in one way.
 use Rattle.std.proofs.Common.{◌≡◌, ℕ, ◌<◌, ◌≤◌, ◌^◌, ◌==◌, Bool, true, false, List, [], ◌∷◌, ◌++◌, Option, Some, None}
 use Rattle.std.proofs.Common.{refl, sym, ◌∙◌, ap, subst, arith, inl, codes, decimal, if◌then◌else◌}
 use Rattle.std.proofs.lemmas.Bool.{true≢false, eq-eqb}
@@ -46,7 +46,7 @@ sum_lacks : (o : Option ℕ) (i n : ℕ) (spans : List Span)
 sum_lacks None i n spans l h k = lacks_by 10 (codes "none") refl
 sum_lacks (Some v) i n spans l h k = let w = least_within n i v spans h k in digits_lack v (omega arith)
 
--- no good line has a line feed within
+-- no good line contains a line feed
 pub may_lack : (p : ReaderState) (l : ListingLine) → MayCome p l → IsGood p → Lacks 10 (line_text l)
 may_lack begun ListingLine.Listing m g = lacks_by 10 (codes "listing 1") refl
 may_lack (between es) (ListingLine.Tune tune bars) m g =
@@ -81,14 +81,14 @@ may_lack (proving es e) (ListingLine.Potential bar least) m g =
     (space_lacks (sum_text least) (sum_lacks least bar e.bars e.spans (omega arith) g.1.begun.spans m.1))
 may_lack p l m g = absurd m
 
--- texts that begin with other bytes are apart
+-- texts that begin with different bytes are different
 pub apart : (a b : List ℕ) → (head_of a == head_of b) ≡ false → a ≡ b → ⊥
 apart a b n e = true≢false (sym (eq-eqb (head_of a) (head_of b) (ap head_of e)) ∙ n)
 
 abbrev span_of : ℕ → ℕ → ℕ → Span
 span_of a b badness = record { a = a; b = b; badness = badness }
 
--- lines of one kind with the same text tell the same
+-- lines of one kind with the same text say the same
 pub tune_alone : (tune bars t b : ℕ)
     → tune < 2 ^ 64 → bars < 2 ^ 64 → t < 2 ^ 64 → b < 2 ^ 64
     → line_text (ListingLine.Tune tune bars) ≡ line_text (ListingLine.Tune t b)
@@ -196,7 +196,7 @@ same_listing : (m : ListingLine) → MayCome begun m → ListingLine.Listing ≡
 same_listing ListingLine.Listing k = refl
 same_listing m k = absurd k
 
--- of the lines that may come here each has a text of its own
+-- each of the lines that may come here has its own text
 pub one_line : (p : ReaderState) (l m : ListingLine)
     → MayCome p l → MayCome p m → IsGood p → line_text l ≡ line_text m → l ≡ m
 one_line begun ListingLine.Listing m h k g e = same_listing m k
@@ -208,7 +208,7 @@ one_line (choosing es x) (ListingLine.Total total) m h k g e = same_total es x t
 one_line (proving es x) (ListingLine.Potential bar least) m h k g e = same_potential es x bar least m h k
 one_line p l m h k g e = absurd h
 
--- From one place good lines through the same text are the same lines.
+-- From one state, good lines through the same text are the same lines.
 pub one_way : (p : ReaderState) (ls ms : List ListingLine) (es fs : List Entry) (more : List ℕ)
     → IsGood p → Leads p ls (ended es) → Leads p ms (ended fs) → lines_then ls more ≡ lines_then ms []
     → (es ≡ fs) × (more ≡ [])
@@ -226,7 +226,7 @@ one_way p (l ∷ ls) (m ∷ ms) es fs more g h k e =
     one_way (state_after p l) ls ms es fs more (step_good p l h.0 g) h.1
     (subst (λ m. Leads (state_after p m) ms (ended fs)) (sym s) k.1) c.1
 
--- Where the text is stuck, no lines lead through it.
+-- If the text is stuck, no lines lead through it.
 pub no_way : (p : ReaderState) (ls ms : List ListingLine) (q : ReaderState) (fs : List Entry) (rest : List ℕ)
     → IsGood p → Leads p ls q → IsStuck q rest → Leads p ms (ended fs) → lines_then ls rest ≡ lines_then ms [] → ⊥
 no_way p [] [] q fs rest g h s k e = s.1 fs e (sym h ∙ k)
@@ -239,7 +239,7 @@ no_way p (l ∷ ls) (m ∷ ms) q fs rest g h s k e =
     no_way (state_after p l) ls ms q fs rest (step_good p l h.0 g) h.1 s
     (subst (λ m. Leads (state_after p m) ms (ended fs)) (sym is) k.1) c.1
 
--- the lines that lead to the end are those of the entries told
+-- the lines that lead to the end are those of the listed entries
 pub told_by_lines : (text : List ℕ) (ls : List ListingLine) (es : List Entry)
     → text ≡ lines_then ls [] → Leads begun ls (ended es) → IsListing text es
 told_by_lines text ls es e h = record {

@@ -1,4 +1,4 @@
--- The text of a line, each part in front of what follows it.
+-- The text of a line, with each part before what follows it.
 use Rattle.std.proofs.Common.{◌≡◌, ℕ, ◌∷◌, ◌++◌, ap, codes, decimal}
 use mathlib.Core.List.{append_assoc}
 use Rattle.lay_breaks.specs.declared.costs.Span.{Span}

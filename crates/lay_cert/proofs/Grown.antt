@@ -65,7 +65,7 @@ push_legal cost bs b h l some = record {
   fits = push_fits cost 0 b bs h.fits some;
 }
 
--- a listed span rises and lies among the bars
+-- a listed span rises and is among the bars
 pub listed_within : (n : ℕ) (last : Option Span) (ss : List Span) (a b : ℕ)
     → SpansFrom n last ss → IsSome (listed ss a b) → (a < b) × (b ≤ n)
 listed_within n last [] a b h some = absurd (true≢false (sym some))

@@ -1,4 +1,4 @@
--- A span is found by the place of the first span from its bar.
+-- A span is found by the index of the first span from its bar.
 use Rattle.std.proofs.Common.{◌≡◌, ◌≢◌, ℕ, zero, suc, ◌+◌, ◌-◌, ◌<◌, ◌≤◌, ◌⊎◌, inl, inr, Bool, true, false, List, []}
 use Rattle.std.proofs.Common.{◌∷◌, ◌++◌, length, Option, Some, None, MatchOption, refl, sym, ◌∙◌, ap, subst, arith}
 use Rattle.std.proofs.Common.{if◌then◌else◌, option_and_then, slice_get, slice_index, slice_set, get_or-set_same}
@@ -27,7 +27,7 @@ found a b (suc j) (x ∷ xs) s e h one =
     at true is more = let m = one 0 x refl is in absurd (omega arith)
     at false is more = more
 
--- what is listed stands somewhere
+-- what is listed has an index
 somewhere : (a b v : ℕ) (spans : List Span)
     → listed spans a b ≡ Some v → (i : ℕ) × (t : Span) × (slice_get spans i ≡ Some t) × (has_ends a b t ≡ true)
 somewhere a b v [] e = absurd (none-some v e)
@@ -88,7 +88,7 @@ get_push (y ∷ xs) x zero t e = inl e
 get_push (y ∷ xs) x (suc i) t e =
     elim (get_push xs x i t e) [ inl h ↦ inl h | inr h ↦ let k = h.0 in inr ((omega arith), h.1) ]
 
--- no span begins past the last
+-- no span begins after the last span does
 last_rises : (n : ℕ) (s : Span) (ss : List Span)
     → SpansFrom n (Some s) ss → MatchOption (last_span_from (Some s) ss) ⊥ (λ p. s.a ≤ p.a)
 last_rises n s [] h = omega arith
@@ -112,7 +112,7 @@ each_rises n last [] i t h e = absurd (none-some t e)
 each_rises n last (s ∷ ss) zero t h e = subst (λ t. t.a < t.b) (same_Some s t e) h.0.rises
 each_rises n last (s ∷ ss) (suc i) t h e = each_rises n (Some s) ss i t h.1 e
 
--- the last span stands last
+-- the last span is at the end
 last_stands : (last : Option Span) (ss : List Span) (p : Span)
     → last_span_from last ss ≡ Some p
     → ((ss ≡ []) × (last ≡ Some p)) ⊎ ((i : ℕ) × (suc i ≡ length ss) × (slice_get ss i ≡ Some p))

@@ -88,7 +88,7 @@ none_choosing es c raw h f g k (ListingLine.Total t) e m =
     k (h.at ∙ m.0) (e ∙ ap (λ t. line_text (ListingLine.Total t)) (m.1 ∙ sym h.total))
 none_choosing es c raw h f g k l e m = absurd m
 
--- an entry is known by its parts
+-- an entry is determined by its parts
 pub entry_same : (c : Choosing) (t n : ℕ) (ss : List Span) (bs : List ℕ)
     → c.tune ≡ t → c.bars ≡ n → c.spans ≡ ss → c.breaks ≡ bs → begun_with t n ss bs ≡ entry_so_far c
 entry_same c t n ss bs et en es eb =
@@ -111,7 +111,7 @@ lines_push : (ls : List ListingLine) (l : ListingLine) (rest : List ℕ)
 lines_push [] l rest = refl
 lines_push (k ∷ ls) l rest = ap (λ t. line_text k ++ 10 ∷ t) (lines_push ls l rest)
 
--- What holds before each line: the lines so far lead to a place, for which the stage stands.
+-- What holds before each line: the lines so far lead to a reader state that the checker's state represents.
 pub record IsReading (text : List ℕ) (s : ListingState) (js : List Judged) (rest : List ℕ) (number : ℕ) : Type 0 where
   pub lines : List ListingLine
   pub place : ReaderState
@@ -170,7 +170,7 @@ judged_all text js rest number h e =
     at_ended (λ p. Leads begun h.lines p → IsJudged text js) js h.place h.stands
     (λ es v l. (es, told_by_lines text h.lines es (h.so_far ∙ ap (λ r. lines_then h.lines r) e) l, v)) h.leads
 
--- only the last stage stands for the end
+-- only the last checker state represents the end
 pub ended_stage : (s : ListingState) (js : List Judged) (es : List Entry)
     → Represents s js (ended es) → s ≡ ListingState.Ended
 ended_stage ListingState.Ended js es h = refl

@@ -1,4 +1,4 @@
--- What the checker keeps while spans and breaks are told.
+-- What the checker stores while spans and breaks are read.
 use Rattle.std.proofs.Common.{◌≡◌, ◌≢◌, ℕ, ◌+◌, ◌^◌, ◌<◌, ◌≤◌, List, [], ◌∷◌, ◌++◌, length, Option, Some, None, IsSome}
 use Rattle.std.proofs.Common.{is_some, unwrap_or, refl, sym, ◌∙◌, ap, subst, arith, inl, inr, slice_set, Vec}
 use Rattle.std.proofs.lemmas.Bool.{true≢false, cases_eq}
@@ -24,7 +24,7 @@ listed_past n a b ss h l = at (listed ss a b) refl
     at None e = refl
     at (Some v) e = let w = listed_within n None ss a b h (ap is_some e) in absurd (omega arith)
 
--- no break lies past the last bar
+-- no break is past the last bar
 pub last_within : (n a : ℕ) (ss : List Span) (bs : List ℕ)
     → AreSpans n ss → FitsFrom (listed ss) a bs → a ≤ n → last_from a bs ≤ n
 last_within n a ss [] h f l = l

@@ -16,7 +16,7 @@ lines_both (l ∷ ls) ms =
     ap (λ t. line_text l ++ 10 ∷ t) (lines_both ls ms)
     ∙ sym (append_assoc (line_text l) (10 ∷ lines_then ls []) (lines_then ms []))
 
--- further lines put
+-- further lines added
 pub put_both : (old now new : List ℕ) (ls ms : List ListingLine)
     → now ≡ old ++ lines_then ls [] → new ≡ now ++ lines_then ms [] → new ≡ old ++ lines_then (ls ++ ms) []
 put_both old now new ls ms e f = rw (f, e, lines_both ls ms) (append_assoc old (lines_then ls []) (lines_then ms []))
@@ -44,7 +44,7 @@ put_next_potential ps i bar old now new l is e g =
     ∙ (ap (λ ls. old ++ lines_then ls []) (sym (push_potential 0 (take i ps) (slice_index_or ps i None)))
     ∙ ap (λ t. old ++ lines_then (potential_lines 0 t) []) (sym (take_more ps i None l))))
 
--- the lines of an entry put in their parts
+-- the lines of an entry added in their parts
 pub put_whole : (old one two three four five : List ℕ) (t m : ListingLine) (ss cs ps : List ListingLine)
     → one ≡ old ++ lines_then (t ∷ []) [] → two ≡ one ++ lines_then ss [] → three ≡ two ++ lines_then cs []
     → four ≡ three ++ lines_then (m ∷ []) [] → five ≡ four ++ lines_then ps []
@@ -72,7 +72,7 @@ bars_more [] b = append-nil (32 ∷ decimal b)
 bars_more (x ∷ bs) b =
     ap (λ t. 32 ∷ decimal x ++ t) (bars_more bs b) ∙ sym (append_assoc (32 ∷ decimal x) (bars_text bs) (32 ∷ decimal b))
 
--- one more bar put
+-- one more bar added
 pub put_next_bar : (bs : List ℕ) (i : ℕ) (old now new : List ℕ)
     → i < length bs → now ≡ old ++ bars_text (take i bs) → new ≡ now ++ (32 ∷ decimal (slice_index_or bs i 0))
     → new ≡ old ++ bars_text (take (i + 1) bs)

@@ -1,4 +1,4 @@
--- A line that may come keeps what holds of the entries told, and is the next of their lines.
+-- A line that may come keeps what holds for the entries so far, and is the next of their lines.
 use Rattle.std.proofs.Common.{◌≡◌, ℕ, ◌+◌, ◌<◌, ◌≤◌, ◌==◌, Bool, true, false, List, [], ◌∷◌, ◌++◌, length, map, Option}
 use Rattle.std.proofs.Common.{None, refl, sym, ◌∙◌, ap, subst, arith, inl, inr, if◌then◌else◌, slice_index_or}
 use Rattle.std.proofs.lemmas.Bool.{cases_lt, true≢false, eqb-true, eqb-false}
@@ -15,7 +15,7 @@ use Rattle.lay_cert.specs.Told.{IsProving, IsGood, lines_of_state, begun_lines}
 use Rattle.lay_cert.specs.declared.lines.ListingLine.{ListingLine}
 use Rattle.lay_cert.proofs.Grown.{push_potential, push_entry, push_entries, push_span, push_legal, listed_within}
 
--- an entry in the making with one more potential
+-- an unfinished entry with one more potential
 abbrev pub one_more : Entry → Option ℕ → Entry
 one_more e p = record {
   tune = e.tune;
@@ -26,7 +26,7 @@ one_more e p = record {
   potentials = e.potentials ++ p ∷ [];
 }
 
--- the potentials told are those of the first bars
+-- the potentials so far are those of the first bars
 push_known : (P : ℕ → Option ℕ → Type 0) (ps : List (Option ℕ)) (p : Option ℕ)
     → ((i : ℕ) → i < length ps → P i (slice_index_or ps i None)) → P (length ps) p
     → (i : ℕ) → i < length ps + 1 → P i (slice_index_or (ps ++ p ∷ []) i None)
@@ -136,7 +136,7 @@ step_good (proving es e) (ListingLine.Potential bar least) m h =
     (λ l. (h.0, part (last_tune_from 0 es) e least h.1 l known)) h.1.some_left
 step_good p l m h = absurd m
 
--- one more line behind the entries told
+-- one more line after the entries so far
 behind : (es : List Entry) (xs ys : List ListingLine) (l : ListingLine)
     → xs ≡ ys ++ l ∷ []
     → (ListingLine.Listing ∷ all_lines es) ++ xs ≡ ((ListingLine.Listing ∷ all_lines es) ++ ys) ++ l ∷ []

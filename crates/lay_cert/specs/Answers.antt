@@ -1,4 +1,4 @@
--- What the answers of the checker say.
+-- What the results of the checker say.
 use Rattle.std.specs.Prelude.{ℕ, List}
 use Rattle.lay_cert.specs.Listing.{Entry, IsListing}
 use Rattle.lay_cert.specs.ReaderStates.{IsFirstFault}
@@ -11,7 +11,8 @@ use Rattle.lay_cert.specs.declared.check.CertError.TheVariants.{NotListing, Memo
 abbrev pub IsJudged : List ℕ → List Judged → Type 0
 IsJudged text judged = (es : List Entry) × IsListing text es × AreVerdicts es judged
 
--- NotListing that the line is the first that isn't good, and so that the text lists nothing; Memory nothing
+-- NotListing says that this line is the first that isn't good, and so that the text lists nothing; Memory says
+-- nothing
 abbrev pub IsCause : List ℕ → CertError → Type 0
 IsCause text (NotListing number) = IsFirstFault text number × ((es : List Entry) → IsListing text es → ⊥)
 IsCause text Memory = Unit {0}

@@ -6,11 +6,11 @@ use Rattle.lay_cert.specs.Listing.{Entry, IsListing, listing_lines, entries_text
 use Rattle.lay_cert.specs.ReaderStates.{IsFirstFault, IsGoodThroughout}
 use Rattle.lay_cert.specs.declared.lines.ListingLine.{ListingLine}
 
--- a text is a listing exactly where each of its lines is good and the last is `end`
+-- a text is a listing exactly when each of its lines is good and the last is `end`
 abbrev pub GoodByLines : Type 0
 GoodByLines = (text : List ℕ) (es : List Entry) → IsListing text es ↔ IsGoodThroughout text es
 
--- a text tells one list of entries
+-- a text has at most one list of entries
 abbrev pub TellsOne : Type 0
 TellsOne = (text : List ℕ) (es fs : List Entry) → IsListing text es → IsListing text fs → es ≡ fs
 
@@ -18,7 +18,7 @@ TellsOne = (text : List ℕ) (es fs : List Entry) → IsListing text es → IsLi
 abbrev pub FaultsTellNone : Type 0
 FaultsTellNone = (text : List ℕ) (number : ℕ) (es : List Entry) → IsFirstFault text number → IsListing text es → ⊥
 
--- what continues a listing is none
+-- no proper continuation of a listing is a listing
 abbrev pub NoPrefix : Type 0
 NoPrefix = (text more : List ℕ) (es fs : List Entry) → IsListing text es → IsListing (text ++ more) fs → more ≡ []
 
@@ -29,7 +29,7 @@ InParts =
     → lines_then (listing_lines es) []
     ≡ lines_then (ListingLine.Listing ∷ []) [] ++ entries_text es ++ lines_then (ListingLine.End ∷ []) []
 
--- where no span passes a forced bar, the legal breakings are those of the same spans with no bar forced
+-- if no span passes a forced bar, the legal breakings are those of the same spans with no bar forced
 abbrev pub ForcedBySpans : Type 0
 ForcedBySpans =
     (cost : ℕ → ℕ → Option ℕ) (forced : ℕ → Bool)

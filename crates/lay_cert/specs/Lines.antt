@@ -8,7 +8,7 @@ abbrev pub sum_text : Option ℕ → List ℕ
 sum_text None = codes "none"
 sum_text (Some v) = decimal v
 
--- Words and numbers with one space between two of them. Numbers are decimal, without leading zeros.
+-- Words and numbers, separated by one space. Numbers are decimal, without leading zeros.
 abbrev pub line_text : ListingLine → List ℕ
 line_text Listing = codes "listing 1"
 line_text (Tune tune bars) = codes "tune " ++ decimal tune ++ 32 ∷ codes "measures " ++ decimal bars

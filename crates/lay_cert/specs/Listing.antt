@@ -1,6 +1,6 @@
--- What a listing is: for each tune the spans that fit among its bars, a choice of breaks, their total, and the
--- potential of each bar. A breaking of a tune's listing is a rising list of bars that ends with the last and whose
--- spans are all listed. No bar is forced.
+-- What a listing is: for each tune, the spans that fit among its bars, a choice of breaks, their total, and the
+-- potential of each bar. A breaking of a tune's listing is a rising list of bars that ends with the last bar and
+-- whose spans are all listed. No bar is forced.
 use Rattle.std.specs.Prelude.{◌≡◌, ℕ, ◌+◌, ◌<◌, ◌≤◌, ◌^◌, Bool, false, List, [], ◌∷◌, ◌++◌, length, Option, None, map}
 use Rattle.std.specs.Prelude.{slice_index_or}
 use Rattle.lay_breaks.specs.Breaking.{IsLegal, sum_from, IsPotential}
@@ -12,7 +12,7 @@ use Rattle.lay_cert.specs.declared.lines.ListingLine.{ListingLine}
 abbrev pub none_forced : ℕ → Bool
 none_forced b = false
 
--- what is listed of one tune
+-- what is listed for one tune
 pub record Entry : Type 0 where
   pub tune : ℕ
   pub bars : ℕ
@@ -59,7 +59,7 @@ abbrev pub entries_text : List Entry → List ℕ
 entries_text [] = []
 entries_text (e ∷ es) = lines_then (entry_lines e) [] ++ entries_text es
 
--- the text tells these entries
+-- the text lists these entries
 pub record IsListing (text : List ℕ) (es : List Entry) : Type 0 where
   pub entries : EntriesFrom 0 es
   pub lines : text ≡ lines_then (listing_lines es) []

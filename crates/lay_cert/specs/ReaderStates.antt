@@ -1,4 +1,4 @@
--- Which line may come after which: the lines of a listing, each judged by the lines before it alone.
+-- Which line may follow which: the lines of a listing, each judged by the lines before it alone.
 use Rattle.std.specs.Prelude.{◌≡◌, ℕ, ◌+◌, ◌<◌, ◌≤◌, ◌^◌, ◌==◌, List, [], ◌∷◌, ◌++◌, length, Option, Some, None, IsSome}
 use Rattle.std.specs.Prelude.{if◌then◌else◌}
 use Rattle.lay_breaks.specs.Breaking.{last_from, sum_from, IsPotential}
@@ -8,8 +8,8 @@ use Rattle.lay_cert.specs.Lines.{line_text, lines_then}
 use Rattle.lay_cert.specs.Listing.{Entry, none_forced}
 use Rattle.lay_cert.specs.declared.lines.ListingLine.{ListingLine}
 
--- What the lines so far have told: nothing; whole entries; these and the spans and breaks of one more; these and its
--- total and the potentials of its first bars; all.
+-- What the lines so far have said: nothing; whole entries; these and the spans and breaks of one more; these and its
+-- total and the potentials of its first bars; everything.
 pub data ReaderState : Type 0 where
   begun : ReaderState
   between : (es : List Entry) → ReaderState
@@ -25,9 +25,10 @@ abbrev pub last_span_from : Option Span → List Span → Option Span
 last_span_from last [] = last
 last_span_from last (s ∷ ss) = last_span_from (Some s) ss
 
--- The line may come next. A tune's number is past that of the tune before; a span comes before any break, and as the
--- list of spans asks; a break where the span from the break before it, or 0, is listed; the total where the last break
--- is the last bar, and only as the sum; a potential only for the next bar, and only as the least sum.
+-- The line may come next. A tune's number is past that of the tune before. A span comes before any break, and in the
+-- order of the list of spans. A break comes only if the span from the break before it, or from 0, is listed. The
+-- total comes only if the last break is the last bar, and only as the sum. A potential comes only for the next bar,
+-- and only as the least sum.
 abbrev pub MayCome : ReaderState → ListingLine → Type 0
 MayCome begun ListingLine.Listing = Unit {0}
 MayCome (between es) (ListingLine.Tune tune bars) = (last_tune_from 0 es < tune) × (tune < 2 ^ 32) × (bars ≤ 4000)
@@ -40,7 +41,7 @@ MayCome (proving es e) (ListingLine.Potential bar least) =
     (bar ≡ length e.potentials) × IsPotential (listed e.spans) none_forced bar least
 MayCome p l = ⊥
 
--- one more potential: the entry is whole with that of its last bar
+-- one more potential: the entry is complete with the potential of its last bar
 abbrev pub with_potential : List Entry → Entry → Option ℕ → ReaderState
 with_potential es e p =
     let more : Entry = record {
@@ -53,7 +54,7 @@ with_potential es e p =
     } in
     if length e.potentials == e.bars then between (es ++ more ∷ []) else proving es more
 
--- what stands once the line has come
+-- the state after the line
 abbrev pub state_after : ReaderState → ListingLine → ReaderState
 state_after begun ListingLine.Listing = between []
 state_after (between es) (ListingLine.Tune tune bars) =
@@ -78,18 +79,18 @@ state_after (choosing es e) (ListingLine.Total total) =
 state_after (proving es e) (ListingLine.Potential bar least) = with_potential es e least
 state_after p l = p
 
--- the lines are good, each after those before it, and lead from one place to another
+-- the lines are good, each after those before it, and lead from one state to another
 abbrev pub Leads : ReaderState → List ListingLine → ReaderState → Type 0
 Leads p [] q = p ≡ q
 Leads p (l ∷ ls) q = MayCome p l × Leads (state_after p l) ls q
 
--- no good line stands next, nor is this the end
+-- no good line comes next, and this isn't the end
 abbrev pub IsStuck : ReaderState → List ℕ → Type 0
 IsStuck p rest =
     ((l : ListingLine) (more : List ℕ) → rest ≡ line_text l ++ 10 ∷ more → MayCome p l → ⊥)
     × ((es : List Entry) → rest ≡ [] → p ≡ ended es → ⊥)
 
--- the number of the first line that isn't good, or one past the last where all are good and the last isn't `end`
+-- the number of the first line that isn't good, or one past the last if all are good and the last isn't `end`
 abbrev pub IsFirstFault : List ℕ → ℕ → Type 0
 IsFirstFault text number =
     (ls : List ListingLine)

@@ -1,9 +1,9 @@
--- What is written of a verdict: `least`, the tune and its total; or `notleast`, the tune, its total, the least total
--- and the bars of the chosen breaking. One line each.
+-- What is written for a verdict: `least`, the tune and its total; or `notleast`, the tune, its total, the least total
+-- and the bars of the chosen breaking. Each verdict is one line.
 use Rattle.std.specs.Prelude.{ℕ, List, [], ◌∷◌, ◌++◌, codes, decimal}
 use Rattle.lay_cert.specs.declared.check.Verdict.{Verdict, TheVariants.Least, TheVariants.NotLeast}
 
--- each bar behind a space
+-- each bar after a space
 abbrev pub bars_text : List ℕ → List ℕ
 bars_text [] = []
 bars_text (b ∷ bs) = 32 ∷ decimal b ++ bars_text bs

@@ -1,4 +1,4 @@
--- How the checker keeps what the lines so far have told.
+-- How the checker stores what the lines so far have said.
 use Rattle.std.specs.Prelude.{◌≡◌, ℕ, ◌+◌, ◌≤◌, List, [], length, Option, None, MatchOption, slice_index_or}
 use Rattle.lay_breaks.specs.Breaking.{IsLegal, last_from, sum_from, IsPotential}
 use Rattle.lay_breaks.specs.Spans.{AreSpans, listed}
@@ -14,7 +14,7 @@ use Rattle.lay_cert.specs.declared.state.Proving.{Proving}
 use Rattle.lay_cert.specs.declared.state.ListingState.{ListingState}
 use Rattle.lay_cert.specs.ReaderStates as place
 
--- the entry as far as its spans and breaks are told
+-- the entry up to the spans and breaks that were read
 abbrev pub entry_so_far : Choosing → Entry
 entry_so_far c = record { tune = c.tune; bars = c.bars; spans = c.spans; breaks = c.breaks; total = 0; potentials = [] }
 
@@ -53,7 +53,7 @@ IsSound (ListingState.Choosing c) = IsChoosing c
 IsSound (ListingState.Proving v) = IsGoodProving v
 IsSound s = Unit {0}
 
--- the checker's stage, with the verdicts so far, stands for the place
+-- the checker's state, with the verdicts so far, represents the reader state
 abbrev pub Represents : ListingState → List Judged → place.ReaderState → Type 0
 Represents ListingState.Begun js place.begun = js ≡ []
 Represents (ListingState.Between last) js (place.between es) = (last ≡ last_tune_from 0 es) × AreVerdicts es js
@@ -62,11 +62,11 @@ Represents (ListingState.Proving v) js (place.proving es e) = AreVerdicts es js 
 Represents ListingState.Ended js (place.ended es) = AreVerdicts es js
 Represents s js p = ⊥
 
--- no good line at the place has this text
+-- no good line in this state has this text
 abbrev pub NoneMayCome : place.ReaderState → List ℕ → Type 0
 NoneMayCome p raw = (l : ListingLine) → raw ≡ line_text l → MayCome p l → ⊥
 
--- what a step says: that no good line has the text, or the stage behind the one that has
+-- what a step says: either no good line has the text, or this is the state after the line that has it
 abbrev pub IsStep : place.ReaderState → List ℕ → List Judged → Option ListingState → Type 0
 IsStep p raw js o =
     MatchOption o (NoneMayCome p raw)

@@ -1,4 +1,4 @@
--- What holds of the entries that the lines so far have told, and which lines those are.
+-- What holds of the entries that the lines so far have listed, and which lines those are.
 use Rattle.std.specs.Prelude.{◌≡◌, ℕ, ◌<◌, ◌≤◌, ◌^◌, List, [], ◌∷◌, ◌++◌, length, None, map, slice_index_or}
 use Rattle.lay_breaks.specs.Breaking.{IsLegal, last_from, sum_from, IsPotential}
 use Rattle.lay_breaks.specs.Spans.{AreSpans, listed}
@@ -6,7 +6,7 @@ use Rattle.lay_cert.specs.Listing.{Entry, EntriesFrom, none_forced, entry_lines,
 use Rattle.lay_cert.specs.ReaderStates.{ReaderState, begun, between, choosing, proving, ended, last_tune_from}
 use Rattle.lay_cert.specs.declared.lines.ListingLine.{ListingLine}
 
--- spans and a legal prefix of a choice, behind tunes up to number k
+-- spans and a legal prefix of a choice, after tunes up to number k
 pub record IsBegunEntry (k : ℕ) (e : Entry) : Type 0 where
   pub past : k < e.tune
   pub numbered : e.tune < 2 ^ 32
@@ -14,7 +14,7 @@ pub record IsBegunEntry (k : ℕ) (e : Entry) : Type 0 where
   pub spans : AreSpans e.bars e.spans
   pub choice : IsLegal (listed e.spans) none_forced e.breaks (last_from 0 e.breaks)
 
--- a whole choice, its total, and the potentials of the first bars
+-- a complete choice, its total, and the potentials of the first bars
 pub record IsProving (k : ℕ) (e : Entry) : Type 0 where
   pub begun : IsBegunEntry k e
   pub ends : last_from 0 e.breaks ≡ e.bars

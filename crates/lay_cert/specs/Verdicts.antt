@@ -1,6 +1,5 @@
--- What a verdict says of a tune's entry: Least that no breaking of its listed spans has a smaller total than its
--- choice;
--- NotLeast which breaking is chosen over those spans, and that its total is smaller.
+-- What a verdict says about a tune's entry. Least: no breaking of its listed spans has a smaller total than its
+-- choice. NotLeast: the breaking chosen over those spans, and that its total is smaller.
 use Rattle.std.specs.Prelude.{◌≡◌, ℕ, ◌<◌, ◌≤◌, List, [], ◌∷◌}
 use Rattle.lay_breaks.specs.{Breaking.IsLegal, Breaking.IsChosen, Breaking.sum_from, Spans.listed}
 use Rattle.lay_cert.specs.Listing.{Entry, none_forced}

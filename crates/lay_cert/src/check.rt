@@ -9,14 +9,14 @@ use eng_lines::cut_at;
 use mus_units::{Memory, Row};
 use std::alloc::Global;
 
-/// What is said of a tune's choice.
+/// The judgement of a tune's choice.
 #[derive(Drop)]
 pub enum Verdict {
     /// No breaking of the listed spans has a smaller total.
     Least {
         total: u64,
     },
-    /// The breaking that is chosen over the listed spans has a smaller total, `better`.
+    /// The breaking chosen over the listed spans has a smaller total, `better`.
     NotLeast {
         total: u64,
         better: u64,
@@ -34,8 +34,8 @@ pub struct Judged {
 /// Why there are no verdicts.
 #[derive(Clone, Copy, PartialEq, Eq)]
 pub enum CertError {
-    /// The bytes are no listing; `line` is the first that isn't good by the lines
-    /// before it, or one past the last where the text ends early.
+    /// The bytes aren't a listing; `line` is the first line that isn't good given the lines before it, or one past
+    /// the last if the text ends early.
     NotListing { line: u64 },
     /// Memory ran out.
     Memory,
@@ -49,10 +49,10 @@ impl From<Memory> for CertError {
     }
 }
 
-/// One verdict for each tune of a listing, in its order.
+/// Returns one verdict for each tune of a listing, in its order.
 ///
-/// Each sum is recomputed from the listed spans, and none is trusted. A last piece without a line feed
-/// is a line that isn't good. It takes one step for each line, and `least` once for each tune.
+/// Each sum is recomputed from the listed spans; none is trusted. A last piece without a line feed is a line that
+/// isn't good. It takes one step for each line, and one call of `least` for each tune.
 pub fn check_listing(alloc: Global, bytes: &[u8]) -> Result<Row<Judged>, CertError>
     ensures judged { IfOk result (IsJudged bytes.now) }
     ensures cause { IfErr result (IsCause bytes.now) }
@@ -78,13 +78,13 @@ pub fn check_listing(alloc: Global, bytes: &[u8]) -> Result<Row<Judged>, CertErr
     Ok(judged)
 }
 
-/// The law that a text is a listing exactly where each of its lines is good by
-/// those before it, and the last is `end`.
+/// The law that a text is a listing exactly when each of its lines is good given those before it and the last is
+/// `end`.
 pub fn good_by_lines()
     ensures { GoodByLines }
 {}
 
-/// The law that a text lists one thing.
+/// The law that a text has at most one list of entries.
 pub fn tells_one()
     ensures { TellsOne }
 {}

@@ -4,8 +4,8 @@ ghost use Rattle.{lay_breaks.specs.Spans.{listed}, lay_cert.specs.Indexed.{looke
 use lay_breaks::{Costs, Span};
 use mus_units::Row;
 
-/// The listed spans as costs, with no forced bar. For each bar `firsts` says at
-/// which place of the list the spans from it begin.
+/// The listed spans as costs, with no forced bar. For each bar, `firsts` has the index in the list at which the spans
+/// from it begin.
 #[derive(Drop)]
 pub struct Listed {
     pub bars: u32,
@@ -18,7 +18,7 @@ pub struct Listed {
     ghost small: { (a b v : ℕ) → listed spans a b ≡ Some v → v ≤ 2 ^ 40 },
 }
 
-/// What the span from bar `a` to bar `b` costs, or `None` where it isn't listed.
+/// Returns the cost of the span from bar `a` to bar `b`, or `None` if it isn't listed.
 pub fn cost_of(spans: &[Span], firsts: &[usize], a: u32, b: u32) -> Option<u64>
     requires rising { a < b }
     requires within { a < length firsts.now }

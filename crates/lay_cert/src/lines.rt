@@ -9,19 +9,19 @@ use std::alloc::Global;
 /// A line of a listing.
 #[derive(Clone, Copy, PartialEq, Eq)]
 pub enum ListingLine {
-    /// The first.
+    /// The first line.
     Listing,
-    /// A tune's first: its number in the book, and how many bars it has.
+    /// The first line of a tune: its number in the book, and how many bars it has.
     Tune { tune: u32, bars: u32 },
     /// A span that fits.
     OneSpan(Span),
-    /// A break of the choice.
+    /// A break that was chosen.
     Choose { bar: u32 },
-    /// What the spans of the choice cost together.
+    /// The total cost of the chosen spans.
     Total { total: u64 },
-    /// The least sum of listed spans from 0 to a bar, or `None` where there is none.
+    /// The least sum of listed spans from 0 to a bar, or `None` if there is none.
     Potential { bar: u32, least: Option<u64> },
-    /// The last.
+    /// The last line.
     End,
 }
 
@@ -59,7 +59,7 @@ fn put_potential(out: &mut Text, bar: u32, least: Option<u64>) -> Result<(), Mem
     put_sum(out, least)
 }
 
-/// Puts a line at the end of the text, without a line feed.
+/// Adds a line at the end of the text, without a line feed.
 pub fn put_text(out: &mut Text, line: ListingLine) -> Result<(), Memory>
     ensures { OnOk result (out.new ≡ out.old ++ line_text line) }
 {
@@ -74,7 +74,7 @@ pub fn put_text(out: &mut Text, line: ListingLine) -> Result<(), Memory>
     }
 }
 
-/// Whether the bytes are the text of the line.
+/// Returns whether the bytes are the text of the line.
 pub fn is_line(alloc: Global, bytes: &[u8], line: ListingLine) -> Result<bool, Memory>
     ensures { IfOk result (λ r. Decides r (bytes.now ≡ line_text line)) }
 {

@@ -1,4 +1,4 @@
-// Numbers and words of a line, read as they are printed and in no other way.
+// Reads numbers and words of a line exactly as they are printed, and in no other form.
 
 ghost use Rattle.std.specs.Prelude.{◌≡◌, ◌<◌, ◌^◌, ℕ, MatchOption};
 ghost use Rattle.lay_cert.specs.Lines.{line_text};
@@ -8,7 +8,7 @@ ghost use Rattle.lay_breaks.specs.declared.costs.Span.{Span};
 use eng_lines::{number, number_after, number_and_rest, strip};
 use lay_breaks::Span;
 
-/// The number and the bars of a tune's first line.
+/// Returns the number and the bars in a tune's first line.
 pub fn read_tune(bytes: &[u8]) -> Option<(u32, u32)>
     ensures { MatchOption result
         ((tune bars : ℕ) → tune < 2 ^ 32 → bars < 2 ^ 32 → bytes.now ≡ line_text (line.Tune tune bars) → ⊥)
@@ -19,7 +19,7 @@ pub fn read_tune(bytes: &[u8]) -> Option<(u32, u32)>
     Some((tune, number_after(b"measures ", rest)?))
 }
 
-/// The span of a span's line.
+/// Returns the span in a span's line.
 pub fn read_span(bytes: &[u8]) -> Option<Span>
     ensures { MatchOption result
         ((s : Span) → s.a < 2 ^ 32 → s.b < 2 ^ 32 → s.badness < 2 ^ 64 → bytes.now ≡ line_text (line.OneSpan s) → ⊥)
@@ -32,7 +32,7 @@ pub fn read_span(bytes: &[u8]) -> Option<Span>
     Some(Span { a, b, badness })
 }
 
-/// The bar of a break's line.
+/// Returns the bar in a break's line.
 pub fn read_choice(bytes: &[u8]) -> Option<u32>
     ensures { MatchOption result ((bar : ℕ) → bar < 2 ^ 32 → bytes.now ≡ line_text (line.Choose bar) → ⊥)
         (λ bar. (bytes.now ≡ line_text (line.Choose bar)) × (bar < 2 ^ 32)) }

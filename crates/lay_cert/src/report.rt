@@ -40,7 +40,7 @@ fn put_not_least(
     out.push(b'\n')
 }
 
-/// Puts the line of a verdict and its line feed at the end of the text.
+/// Adds the line of a verdict and its line feed at the end of the text.
 pub fn put_verdict(out: &mut Text, judged: &Judged) -> Result<(), Memory>
     ensures { OnOk result (out.new ≡ out.old ++ verdict_text judged.now.tune judged.now.verdict) }
 {

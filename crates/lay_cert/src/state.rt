@@ -21,36 +21,36 @@ use lay_breaks::{BreakError, Breaking, Span, least};
 use mus_units::{Memory, Row};
 use std::alloc::Global;
 
-/// A tune whose spans and breaks are being listed.
+/// A tune whose spans and breaks are being read.
 #[derive(Drop)]
 pub struct Choosing {
     pub tune: u32,
     pub bars: u32,
     pub spans: Row<Span>,
-    /// The last of them.
+    /// The last span.
     pub last: Option<Span>,
-    /// For each bar the place of the first span from it.
+    /// For each bar, the index of the first span from it.
     pub firsts: Vec<usize>,
     pub breaks: Row<u32>,
     /// The last break, or 0.
     pub at: u32,
-    /// What the spans of the choice cost so far.
+    /// The cost of the chosen spans so far.
     pub total: u64,
 }
 
-/// A tune whose choice is whole, and whose potentials are being listed.
+/// A tune whose choice is complete, and whose potentials are being read.
 #[derive(Drop)]
 pub struct Proving {
     pub tune: u32,
     pub bars: u32,
-    /// As recomputed from the spans.
+    /// The potentials, recomputed from the spans.
     pub potentials: Row<Option<u64>>,
     /// The bar whose potential comes next.
     pub next: u32,
     pub verdict: Verdict,
 }
 
-/// What the lines so far have told.
+/// What the lines so far have said.
 #[derive(Drop)]
 pub enum ListingState {
     Begun,
@@ -104,7 +104,7 @@ fn after_entry(alloc: Global, last: u32, raw: &[u8]) -> Result<Option<ListingSta
     Ok(Some(ListingState::Choosing(open_entry(alloc, tune, bars)?)))
 }
 
-/// Whether the span may stand next in the list.
+/// Returns whether the span may come next in the list.
 fn may_follow(choosing: &Choosing, span: &Span) -> bool
     requires { IsChoosing choosing.now }
     ensures yes { result ≡ true → MayFollow choosing.now.bars choosing.now.last span.now }
@@ -126,7 +126,7 @@ fn may_follow(choosing: &Choosing, span: &Span) -> bool
     }
 }
 
-/// Takes note of where the spans from a bar begin, where the span is the first from its bar.
+/// Records where the spans from a bar begin, if this span is the first from its bar.
 fn index_span(mut firsts: Vec<usize>, span: Span, at: usize) -> Vec<usize>
     requires inside { span.a < length firsts.items }
     requires rises { span.a < span.b }
@@ -191,7 +191,7 @@ fn add_break(mut choosing: Choosing, bar: u32, cost: u64) -> Result<Choosing, Me
     Ok(choosing)
 }
 
-/// The cost of the span from the last break to the bar, where it is listed.
+/// Returns the cost of the span from the last break to the bar, if it is listed.
 fn next_cost(choosing: &Choosing, bar: u32) -> Option<u64>
     requires { IsChoosing choosing.now }
     ensures { result ≡ listed choosing.now.spans choosing.now.at bar }
@@ -221,7 +221,7 @@ fn verdict(total: u64, better: u64, breaks: Row<u32>) -> Verdict
     }
 }
 
-/// The potentials of the listed spans, and what the choice costs against the least.
+/// Computes the potentials of the listed spans, and compares the cost of the choice with the least.
 fn prove(alloc: Global, choosing: Choosing) -> Result<Proving, Memory>
     requires sound { IsChoosing choosing }
     requires ends { choosing.at ≡ choosing.bars }
@@ -346,7 +346,7 @@ fn after_total(
     })))
 }
 
-/// Whether the last line was `end`.
+/// Returns whether the last line was `end`.
 pub fn is_ended(stage: &ListingState) -> bool
     ensures yes { result ≡ true → stage.now ≡ stages.Ended }
     ensures no { result ≡ false → stage.now ≡ stages.Ended → ⊥ }
@@ -354,7 +354,7 @@ pub fn is_ended(stage: &ListingState) -> bool
     matches!(stage, ListingState::Ended)
 }
 
-/// The stage behind the line, or `None` where the line isn't good.
+/// Returns the state after the line, or `None` if the line isn't good.
 pub fn step(
     alloc: Global,
     stage: ListingState,

@@ -8,7 +8,7 @@ use crate::lines::{ListingLine, put_text};
 use lay_breaks::{Breaking, Span};
 use mus_units::{Memory, Text};
 
-/// Puts a line and its line feed at the end of the text.
+/// Adds a line and its line feed at the end of the text.
 pub fn put_line(out: &mut Text, line: ListingLine) -> Result<(), Memory>
     ensures { OnOk result (out.new ≡ out.old ++ lines_then (line ∷ []) []) }
 {
@@ -46,15 +46,15 @@ fn put_potentials(out: &mut Text, potentials: &[Option<u64>]) -> Result<(), Memo
     Ok(())
 }
 
-/// Puts the first line of a listing.
+/// Adds the first line of a listing.
 pub fn put_heading(out: &mut Text) -> Result<(), Memory>
     ensures { OnOk result (out.new ≡ out.old ++ lines_then (line.Listing ∷ []) []) }
 {
     put_line(out, ListingLine::Listing)
 }
 
-/// Puts the lines of one tune: its number and bars, the spans that fit by where
-/// they begin and then by where they end, and what was chosen among them.
+/// Adds the lines of one tune: its number and bars, the spans that fit, sorted by where they begin and then by where
+/// they end, and what was chosen among them.
 pub fn put_entry(
     out: &mut Text,
     tune: u32,
@@ -85,7 +85,7 @@ pub fn put_entry(
     Ok(())
 }
 
-/// Puts the last line of a listing.
+/// Adds the last line of a listing.
 pub fn put_end(out: &mut Text) -> Result<(), Memory>
     ensures { OnOk result (out.new ≡ out.old ++ lines_then (line.End ∷ []) []) }
 {
@@ -97,8 +97,8 @@ pub fn in_parts()
     ensures { InParts }
 {}
 
-/// The law that where no span passes a forced bar, the legal breakings are the
-/// breakings of those spans: a listing need not tell which bars are forced.
+/// The law that, if no span passes a forced bar, the legal breakings are the breakings of those spans: a listing need
+/// not say which bars are forced.
 pub fn forced_by_spans()
     ensures { ForcedBySpans }
 {}
