@@ -1,4 +1,4 @@
--- The text of a listing, put in its parts.
+-- The text of a listing, added in its parts.
 use Rattle.std.proofs.Common.{◌≡◌, ℕ, List, [], ◌∷◌, ◌++◌, Result, Ok, Err, refl, sym, ◌∙◌, ap}
 use Rattle.std.proofs.lemmas.List.{append_assoc}
 use Rattle.std.specs.List.{cons_option}
@@ -22,7 +22,7 @@ outcomes_are (o ∷ os) = ap (λ t. result_text o.ordinal o.result ++ t) (outcom
     at (Ok t) = refl
     at (Err fault) = refl
 
--- the first line, the entries and the last line put
+-- the first line, the entries and the last line added
 pub put_all : (os : List Outcome) (old one two three : List ℕ)
     → one ≡ old ++ lines_then (ListingLine.Listing ∷ []) [] → two ≡ one ++ outcomes_text os
     → three ≡ two ++ lines_then (ListingLine.End ∷ []) [] → three ≡ old ++ listing_text os

@@ -1,4 +1,5 @@
--- What is written of a book is a listing of its scores' breakings, and no way is told exactly where a score has none.
+-- What is written for a book is a listing of its scores' breakings, and no way is reported exactly when a score has
+-- none.
 use Rattle.std.proofs.Common.{◌≡◌, refl, ap, subst, inl, inr, ℕ, Bool, List, [], ◌∷◌, Result, Ok, Err}
 use Rattle.std.proofs.lemmas.List.Elements.{All-cons, All-nil}
 use Rattle.std.specs.List.{All}
@@ -46,7 +47,7 @@ lists_the_book bytes terms outcomes short set = record {
 }
 
 -- ---- no way
--- what is told to have no way has no legal breaking
+-- what is reported to have no way has no legal breaking
 none_legal : (s : Score) (width reached : ℕ) (spans : List Span)
     → IsNoWay s width reached spans → (breaks : List ℕ) → IsLegalIn s width breaks → ⊥
 none_legal s width reached spans way breaks legal = way.none breaks (legal_listed s width spans way.exact breaks legal)

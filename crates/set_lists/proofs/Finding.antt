@@ -1,4 +1,4 @@
--- Where a listed span stands.
+-- Where a listed span is.
 use Rattle.std.proofs.Common.{◌≡◌, ℕ, zero, suc, ◌+◌, ◌<◌, ◌≤◌, Bool, true, false, nat_lt, List, [], ◌∷◌, length, drop}
 use Rattle.std.proofs.Common.{Option, Some, None, option_map, if◌then◌else◌, arith, refl, sym, ◌∙◌, ap, subst, inl, inr}
 use Rattle.std.proofs.Common.{unwrap_or}
@@ -19,7 +19,7 @@ begin_in_order n last (s ∷ t ∷ ss) h zero d l = next_begins s t h.1.0.follow
 begin_in_order n last (s ∷ t ∷ ss) h (suc k) d l = begin_in_order n (Some s) (t ∷ ss) h.1 k d (omega (arith, l))
 begin_in_order n last ss h k d l = absurd (omega (arith, l))
 
--- listed spans stand by the bar at which they begin
+-- listed spans are sorted by the bar at which they begin
 pub in_order : (n : ℕ) (ss : List Span) → AreSpans n ss → IsNonDecreasingBy (λ s. s.a) ss
 in_order n ss h = IsNonDecreasingBy-from_all_adjacent (λ s. s.a) ss (λ k d l.
     let e : suc k ≡ k + 1 = omega arith in

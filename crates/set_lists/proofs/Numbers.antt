@@ -41,7 +41,7 @@ few_lines bytes =
     omega (arith, mapped, l, split, m)
 
 module _ (terms : Terms) (all : List LineContent) where
-  -- the outcomes of the tunes that begin behind some lines, the first of which has a number past k
+  -- the outcomes of the tunes that begin after some lines, the first of which has a number past k
   rise_behind : (before lines : List LineContent) (k : ℕ) (os : List Outcome)
       → k + length lines < 2 ^ 32 → AreOutcomes terms (tunes_behind all (suc k) before lines) os → OrdinalsRise k os
   rise_behind before [] k [] l h = tt

@@ -1,4 +1,4 @@
--- What comes of tunes can be listed, and its listing tells the tunes that are set.
+-- Outcomes of tunes can be listed, and their listing lists the tunes that are set.
 use Rattle.std.proofs.Common.{◌≡◌, ◌∙◌, sym, ℕ, ◌<◌, ◌≤◌, ◌^◌, Bool, true, List, [], ◌∷◌, Option, Some, None, Result}
 use Rattle.std.proofs.Common.{Ok, Err, arith, refl}
 use Rattle.std.proofs.lemmas.List.Elements.{All-cons, All-nil}

@@ -32,20 +32,20 @@ BookRises =
     (bytes : List ℕ) (terms : Terms) (outcomes : List Outcome)
     → length bytes ≤ 2 ^ 30 → AreOutcomes terms (book_of bytes).tunes outcomes → OrdinalsRise 0 outcomes
 
--- what comes of tunes can be listed
+-- outcomes of tunes can be listed
 abbrev pub OutcomesAreListable : Type 0
 OutcomesAreListable =
     (terms : Terms) (tunes : List TuneText) (outcomes : List Outcome)
     → AreOutcomes terms tunes outcomes → AreListable outcomes
 
--- what is written of tunes whose numbers rise is a listing, and it tells the tunes without a fault
+-- what is written for tunes whose numbers rise is a listing, and it lists the tunes without a fault
 abbrev pub ListsTheSet : Type 0
 ListsTheSet =
     (terms : Terms) (tunes : List TuneText) (outcomes : List Outcome)
     → AreOutcomes terms tunes outcomes → OrdinalsRise 0 outcomes
     → IsListing (listing_text outcomes) (entries_of outcomes)
 
--- the breakings of a tune's entry, of which no bar is forced, are the legal breakings of its score
+-- the breakings of a tune's entry, in which no bar is forced, are the legal breakings of its score
 abbrev pub BreakingsOfListing : Type 0
 BreakingsOfListing = (s : Score) (width : ℕ) (spans : List Span) → AreSpans s.measures spans → AreSpansOf s width spans
     → (breaks : List ℕ) → IsLegal (listed spans) none_forced breaks s.measures ↔ IsLegalIn s width breaks
@@ -61,18 +61,18 @@ pub record ListsTheScores (paper : Paper) (text : List ℕ) (outcomes : List Out
   pub listing : IsListing text (entries_of outcomes)
   pub breakings : All (λ outcome. HasItsBreakings (body_width paper) outcome.result) outcomes
 
--- what is written of a book is such a listing
+-- what is written for a book is such a listing
 abbrev pub ListsTheBook : Type 0
 ListsTheBook =
     (bytes : List ℕ) (terms : Terms) (outcomes : List Outcome)
     → length bytes ≤ 2 ^ 30 → AreOutcomes terms (book_of bytes).tunes outcomes
     → ListsTheScores terms.paper (listing_text outcomes) outcomes
 
--- the tune is told that it has no way: legal breakings of its first measures go up to some bar, and none to the last
+-- the tune is reported to have no way: legal breakings of its first measures go up to some bar, and none to the last
 abbrev pub HasNoWay : TuneText → Outcome → Type 0
 HasNoWay tune outcome = (reached : ℕ) × (outcome.result ≡ Err (layout_fault tune (FaultKind.NoWay reached)))
 
--- A tune that has a score is told that it has no way exactly where its score has no legal breaking on the width of the
+-- A tune that has a score is reported to have no way exactly when its score has no legal breaking on the width of the
 -- body.
 abbrev pub NoWayIsExact : Type 0
 NoWayIsExact =

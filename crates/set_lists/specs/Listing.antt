@@ -7,7 +7,7 @@ use Rattle.lay_cert.specs.Lines.{lines_then}
 use Rattle.lay_cert.specs.Listing.{Entry, entry_lines, listing_lines}
 use Rattle.{set_tune.specs.declared.tune.SetTune.{SetTune}, set_book.specs.declared.outcome.Outcome.{Outcome}}
 
--- what is listed of a tune
+-- what is listed for a tune
 abbrev pub entry_of : ℕ → SetTune → Entry
 entry_of ordinal t = record {
   tune = ordinal;
@@ -43,8 +43,8 @@ outcomes_text outcomes = flat_map outcome_text outcomes
 abbrev pub listing_text : List Outcome → List ℕ
 listing_text outcomes = lines_then (listing_lines (entries_of outcomes)) []
 
--- what is asked of a tune whose systems or listing are written: its spans have their form, each of its systems has a
--- place for its columns, and its bars can be numbered
+-- what is required of a tune whose systems or listing are written: its spans have their form, each of its systems has
+-- places for its columns, and its bars can be numbered
 pub record CanBeListed (t : SetTune) : Type 0 where
   pub form : AreSpans t.score.measures t.spans
   pub beside : length t.placed ≡ length t.systems

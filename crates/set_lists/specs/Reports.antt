@@ -6,7 +6,7 @@ use Rattle.abc_lines.specs.declared.fault.FaultKind.{FaultKind}
 use Rattle.set_tune.specs.declared.tune.SetTune.{SetTune}
 use Rattle.set_book.specs.declared.outcome.Outcome.{Outcome}
 
--- the name of a kind of fault, and its number behind a space where it has one
+-- the name of a kind of fault, followed by a space and its number if it has one
 abbrev pub kind_name : FaultKind → List ℕ
 kind_name FaultKind.NoKey = codes "NoKey"
 kind_name FaultKind.BadMeter = codes "BadMeter"

@@ -18,7 +18,7 @@ listed_system spans m p =
     codes "system " ++ decimal m.a ++ codes " " ++ decimal m.b ++ codes " force " ++ decimal p.force
     ++ codes " badness " ++ decimal (badness_in spans m.a m.b) ++ 10 ∷ []
 
--- the systems in order, each with where its columns stand
+-- the systems in order, each with the places of its columns
 abbrev pub system_lines : List Span → List SystemMarks → List Placed → List ℕ
 system_lines spans [] ps = []
 system_lines spans (m ∷ ms) [] = []

@@ -1,4 +1,4 @@
--- The line of a trial, and what is counted of outcomes.
+-- The line of a trial, and what is counted among outcomes.
 use Rattle.std.specs.Prelude.{ℕ, Bool, List, [], ◌∷◌, ◌++◌, codes, decimal, length, sum_by, count_by, Result, Ok, Err}
 use Rattle.std.specs.Prelude.{is_ok}
 use Rattle.abc_lines.specs.declared.fault.Fault.{Fault}
@@ -24,7 +24,7 @@ set_count outcomes = count_by is_set outcomes
 abbrev pub fault_count : List Outcome → ℕ
 fault_count outcomes = count_by is_faulty outcomes
 
--- a number of each tune without a fault
+-- a number for each tune without a fault
 abbrev pub number_of_set : (SetTune → ℕ) → Result SetTune Fault → ℕ
 number_of_set number (Ok t) = number t
 number_of_set number (Err fault) = 0
@@ -35,7 +35,7 @@ systems_in outcome = number_of_set (λ t. length t.systems) outcome.result
 abbrev pub total_in : Outcome → ℕ
 total_in outcome = number_of_set (λ t. t.breaking.total) outcome.result
 
--- how many systems the tunes without a fault have together, and what these cost
+-- how many systems the tunes without a fault have in total, and what these cost
 abbrev pub system_count : List Outcome → ℕ
 system_count outcomes = sum_by systems_in outcomes
 

@@ -8,12 +8,12 @@ pub fn book_rises()
     ensures { BookRises }
 {}
 
-/// The law that what comes of tunes can be listed.
+/// The law that outcomes of tunes can be listed.
 pub fn outcomes_are_listable()
     ensures { OutcomesAreListable }
 {}
 
-/// The law that what `put_listing` writes of tunes whose numbers rise is a listing.
+/// The law that `put_listing` writes a listing for tunes whose numbers rise.
 pub fn lists_the_set()
     ensures { ListsTheSet }
 {}
@@ -23,12 +23,12 @@ pub fn breakings_of_listing()
     ensures { BreakingsOfListing }
 {}
 
-/// The law that what `put_listing` writes of a book is a listing whose breakings are those of its scores.
+/// The law that `put_listing` writes for a book a listing whose breakings are those of its scores.
 pub fn lists_the_book()
     ensures { ListsTheBook }
 {}
 
-/// The law that a tune with a score is told to have no way exactly where its score has no legal breaking.
+/// The law that a tune with a score is reported to have no way exactly when its score has no legal breaking.
 pub fn no_way_is_exact()
     ensures { NoWayIsExact }
 {

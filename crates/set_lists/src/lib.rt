@@ -1,5 +1,5 @@
-//! The texts that are written of the outcomes of a book besides its pages: the reports of the tunes
-//! with a fault, the systems, the listing and the line of a trial.
+//! The texts that are written for the outcomes of a book besides its pages: the reports of the tunes with a fault,
+//! the systems, the listing and the line of a trial.
 #![tactic(auto)]
 
 pub mod laws;

@@ -39,8 +39,8 @@ fn put_outcomes(out: &mut Text, outcomes: &[Outcome]) -> Result<(), Memory>
     Ok(())
 }
 
-/// Puts the listing at the end of the text: its first line, the entry of each tune without a fault,
-/// and its last line.
+/// Adds the listing at the end of the text: its first line, the entry of each tune without a fault, and its last
+/// line.
 pub fn put_listing(out: &mut Text, outcomes: &[Outcome]) -> Result<(), Memory>
     requires { AreListable outcomes.now }
     ensures { OnOk result (out.new ≡ out.old ++ listing_text outcomes.now) }

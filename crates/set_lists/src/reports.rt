@@ -6,7 +6,7 @@ use abc_lines::{Fault, FaultKind};
 use mus_units::{Memory, Text};
 use set_book::Outcome;
 
-/// Puts the name of a kind of fault, and its number behind a space where it has one.
+/// Adds the name of a kind of fault, followed by a space and its number if it has one.
 fn put_kind(out: &mut Text, kind: FaultKind) -> Result<(), Memory>
     ensures { OnOk result (out.new ≡ out.old ++ kind_name kind) }
 {
@@ -39,7 +39,7 @@ fn put_kind(out: &mut Text, kind: FaultKind) -> Result<(), Memory>
     }
 }
 
-/// Puts the line of a tune's fault.
+/// Adds the line of a tune's fault.
 #[tactic(auto, unfolding(crate::specs::Reports::fault_report))]
 fn put_fault(out: &mut Text, ordinal: u32, fault: &Fault) -> Result<(), Memory>
     ensures { OnOk result (out.new ≡ out.old ++ fault_report ordinal fault.now) }
@@ -61,8 +61,8 @@ fn put_report(out: &mut Text, outcome: &Outcome) -> Result<(), Memory>
     }
 }
 
-/// Puts the line `tune K line L column C: NAME` of each tune that has a fault at the end of the
-/// text, in order. NAME is the name of the kind, and its number where it has one.
+/// Adds the line `tune K line L column C: NAME` for each tune with a fault at the end of the text, in order. NAME is
+/// the name of the kind, and its number if it has one.
 #[tactic(auto, unfolding(crate::specs::Reports::reports))]
 pub fn put_reports(out: &mut Text, outcomes: &[Outcome]) -> Result<(), Memory>
     ensures { OnOk result (out.new ≡ out.old ++ reports outcomes.now) }
@@ -73,7 +73,7 @@ pub fn put_reports(out: &mut Text, outcomes: &[Outcome]) -> Result<(), Memory>
     Ok(())
 }
 
-/// Whether some tune has a fault.
+/// Returns whether some tune has a fault.
 pub fn has_fault(outcomes: &[Outcome]) -> bool
     ensures { result ≡ some_fault outcomes.now }
 {

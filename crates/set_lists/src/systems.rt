@@ -15,14 +15,14 @@ fn has_ends(a: u32, b: u32, span: &Span) -> bool
     span.a == a && span.b == b
 }
 
-/// The first span from bar `a` to bar `b`.
+/// Returns the first span from bar `a` to bar `b`.
 fn span_between(spans: &[Span], a: u32, b: u32) -> Option<&Span>
     ensures { option_copied result ≡ find (has_ends a b) spans.now }
 {
     spans.iter().find(|span| has_ends(a, b, span))
 }
 
-/// The badness of the first span from bar `a` to bar `b`, 0 where there is none.
+/// Returns the badness of the first span from bar `a` to bar `b`, or 0 if there is none.
 fn badness_among(spans: &[Span], a: u32, b: u32) -> u64
     ensures { result ≡ badness_in spans.now a b }
 {
@@ -32,7 +32,7 @@ fn badness_among(spans: &[Span], a: u32, b: u32) -> u64
     }
 }
 
-/// The same among listed spans of `bars` bars, which stand by the bar at which they begin.
+/// Returns the same for listed spans of `bars` bars, which are sorted by the bar at which they begin.
 fn badness_in(spans: &[Span], bars: u32, a: u32, b: u32) -> u64
     requires { AreSpans bars spans.now }
     ensures { result ≡ badness_in spans.now a b }
@@ -100,9 +100,9 @@ fn put_outcome(out: &mut Text, outcome: &Outcome) -> Result<(), Memory>
     }
 }
 
-/// Puts the line `tune K measures n total t` of each tune without a fault at the end of the text, and
-/// behind it the line `system a b force f badness c` of each of its systems: `a` is the bar before
-/// it, `b` its last bar, and the force is as it counts.
+/// Adds for each tune without a fault, at the end of the text, the line `tune K measures n total t`, followed by the
+/// line `system a b force f badness c` for each of its systems: `a` is the bar before the system, `b` its last bar,
+/// and `f` the force as it counts.
 #[tactic(auto, unfolding(crate::specs::Systems::systems_text))]
 pub fn put_systems(out: &mut Text, outcomes: &[Outcome]) -> Result<(), Memory>
     requires { AreListable outcomes.now }

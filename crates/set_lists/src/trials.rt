@@ -6,8 +6,8 @@ use crate::words::put_word;
 use mus_units::{Memory, Text};
 use set_book::Outcome;
 
-/// What a trial of a book tells: how many tunes it has, how many of them are set and how many
-/// refused, how many systems, pages and bytes these make, and what all breakings cost together.
+/// The counts of a trial of a book: how many tunes it has, how many are set and how many refused, how many systems,
+/// pages and bytes they make, and the total cost of all breakings.
 #[derive(Clone, Copy, PartialEq, Eq)]
 pub struct Trial {
     pub tunes: u64,
@@ -19,7 +19,7 @@ pub struct Trial {
     pub total: u128,
 }
 
-/// Puts the line `trial N set s refused r systems y pages p bytes b total t` at the end of the text.
+/// Adds the line `trial N set s refused r systems y pages p bytes b total t` at the end of the text.
 #[tactic(auto, unfolding(crate::specs::Trials::trial_text))]
 pub fn put_trial(out: &mut Text, trial: &Trial) -> Result<(), Memory>
     ensures { OnOk result (out.new ≡ out.old ++ trial_text trial.now) }
@@ -34,7 +34,7 @@ pub fn put_trial(out: &mut Text, trial: &Trial) -> Result<(), Memory>
     out.push(b'\n')
 }
 
-/// How many tunes have no fault.
+/// Returns how many tunes have no fault.
 pub fn set_count(outcomes: &[Outcome]) -> u64
     ensures { result ≡ set_count outcomes.now }
 {
@@ -47,7 +47,7 @@ pub fn set_count(outcomes: &[Outcome]) -> u64
     count
 }
 
-/// How many tunes have a fault.
+/// Returns how many tunes have a fault.
 pub fn fault_count(outcomes: &[Outcome]) -> u64
     ensures { result ≡ fault_count outcomes.now }
 {
@@ -78,7 +78,7 @@ fn total_in(outcome: &Outcome) -> u64
     }
 }
 
-/// How many systems the tunes without a fault have together.
+/// Returns how many systems the tunes without a fault have in total.
 pub fn system_count(outcomes: &[Outcome]) -> u128
     ensures { result ≡ system_count outcomes.now }
 {
@@ -89,7 +89,7 @@ pub fn system_count(outcomes: &[Outcome]) -> u128
     count
 }
 
-/// What the breakings of the tunes without a fault cost together.
+/// Returns the total cost of the breakings of the tunes without a fault.
 pub fn total_of(outcomes: &[Outcome]) -> u128
     ensures { result ≡ total_of outcomes.now }
 {

@@ -3,7 +3,7 @@ ghost use Rattle.std.specs.Prelude.{◌≡◌, ◌++◌, decimal, OnOk};
 use itoa::Buffer;
 use mus_units::{Memory, Text};
 
-/// Puts a word and then a number, in decimal.
+/// Adds a word and then a number, in decimal.
 pub(crate) fn put_word(out: &mut Text, word: &[u8], number: u128) -> Result<(), Memory>
     ensures { OnOk result (out.new ≡ out.old ++ word.now ++ decimal number) }
 {

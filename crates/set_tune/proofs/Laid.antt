@@ -1,5 +1,5 @@
--- What the setting of a tune rests on: a score with measures has a voice, a tune has few titles,
--- and few blocks of good heights.
+-- What the setting of a tune relies on: a score with measures has a voice, a tune has few titles, and few blocks with
+-- good heights.
 use Rattle.std.proofs.Common.{◌≡◌, ℕ, ℤ, pos, negsuc, zero, suc, ◌+◌, ◌<◌, ◌≤◌, ◌^◌, Bool, List, [], ◌∷◌, ◌++◌, length}
 use Rattle.std.proofs.Common.{map, take, Option, Some, None, Result, Ok, Err, sym, subst, refl, arith}
 use Rattle.std.proofs.lemmas.List.{length-append, length-map}
@@ -94,7 +94,7 @@ heard_moved tune defaults manner header score has some =
 
 -- ---- titles and composers
 
--- what a field gives, where a field of another kind gives nothing, comes of a line that has a byte
+-- what a field yields, if a field of another kind yields nothing, comes from a line that has a byte
 given_first : (f : Field → Option (List ℕ))
     → f Field.Other ≡ None → (fs : List Field) (n : ℕ) → length (filter_map f fs) ≤ n
     → length (filter_map f (put_field (field_of []) fs)) ≤ n

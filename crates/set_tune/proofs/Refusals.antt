@@ -1,4 +1,4 @@
--- The stages of a tune's setting, put together: what each refuses is the one fault of the tune.
+-- The stages of a tune's setting combined: what each refuses is the one fault of the tune.
 use Rattle.std.proofs.Common.{◌≡◌, sym, subst, inl, inr, ℕ, None, Some, Result, Ok, Err, IfErr}
 use Rattle.abc_lines.specs.declared.book.TuneText.{TuneText}
 use Rattle.abc_lines.specs.declared.fault.TuneError.{TuneError}

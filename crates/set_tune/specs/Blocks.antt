@@ -1,5 +1,5 @@
--- The blocks of a tune: its title block, where that has a row, tied to the system below it where there is one;
--- and its systems.
+-- The blocks of a tune: its title block, if it has a row, tied to the system below it if there is one; and its
+-- systems.
 use Rattle.std.specs.Prelude.{ℕ, ◌^◌, min, ℤ, pos, ◌≤ℤ◌, Bool, true, false, List, [], ◌∷◌, ◌++◌, map}
 use Rattle.lay_pages.specs.declared.filling.Block.{Block}
 use Rattle.lay_pages.specs.declared.stacking.Heights.{Heights}
@@ -11,7 +11,7 @@ pub record HasGoodHeight (h : Heights) : Type 0 where
   pub low : pos 0 ≤ℤ h.height
   pub high : h.height ≤ℤ pos (2 ^ 40)
 
--- a block counts as at most 2^40 high
+-- a block counts as at most 2^40 u high
 abbrev pub block_height : ℕ → ℤ
 block_height height = pos (min height (2 ^ 40))
 

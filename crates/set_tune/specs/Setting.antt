@@ -41,7 +41,7 @@ pub record IsWritten (tune : TuneText) (defaults : Defaults) (flow : Bool) (head
   pub value : IsScoreOf header tune flow score
   pub good : IsGoodScore score
 
--- a fault of the line that says how voices share staves stands there, in column 1
+-- a fault of the line that says how voices share staves is reported at that line, in column 1
 abbrev pub share_fault : Line → FaultKind → Fault
 share_fault line kind = record { kind = kind; line = line.number; column = 1 }
 
@@ -55,7 +55,7 @@ IsUnshared line written fault =
     × (DoShare written plan → ⊥)
     × (fault ≡ share_fault line FaultKind.BadShare))
 
--- What comes of the written score and that line, where there is one: the score that is drawn, or a fault. Without a
+-- The result for the written score and that line, if there is one: the score that is drawn, or a fault. Without a
 -- line the score that is drawn is the written one.
 abbrev pub IsScoreDrawn : Option Line → Score → Result Score Fault → Type 0
 IsScoreDrawn None written drawn = drawn ≡ Ok written
@@ -66,7 +66,8 @@ IsScoreDrawn (Some line) written (Ok drawn) =
     × (drawn ≡ drawn_of written plan)
 IsScoreDrawn (Some line) written (Err fault) = IsUnshared line written fault
 
--- The header, and the score that is set: the drawn one, moved, so that each head sounds so many semitones higher.
+-- The header, and the score that is set: the drawn one, moved, so that each head sounds higher by the manner's number
+-- of semitones.
 pub record HasScore (tune : TuneText) (defaults : Defaults) (manner : Manner) (header : Header)
     (score : Score) : Type 0 where
   pub written : Score
@@ -84,7 +85,7 @@ pub record CantDraw (tune : TuneText) (defaults : Defaults) (manner : Manner) (f
   pub is : IsWritten tune defaults manner.flow header written
   pub draws : IsScoreDrawn header.staves written (Err fault)
 
--- The score of the tune can't be moved so far.
+-- The score of the tune can't be moved that far.
 pub record CantMove (tune : TuneText) (defaults : Defaults) (manner : Manner) : Type 0 where
   pub header : Header
   pub written : Score
@@ -119,13 +120,13 @@ pub record IsSetTune (tune : TuneText) (terms : Terms) (t : SetTune) : Type 0 wh
   pub laid : IsLaidTune tune terms t
   pub fits : first_tall (body_height terms.paper) (blocks_of t.title t.heights) ≡ None
 
--- a fault of the move or of the layout stands at the first line of the tune, in column 1
+-- a fault of the move or of the layout is reported at the first line of the tune, in column 1
 abbrev pub layout_fault : TuneText → FaultKind → Fault
 layout_fault tune kind = record { kind = kind; line = first_line_number tune.lines; column = 1 }
 
--- The one fault of a tune, by stages: of its header; where that has none, of its body or its score; where the score has
--- none, that its voices can't share staves as they should; where they can, that it can't be moved; where it can, that
--- no breaking is legal; and where one is, that a group of blocks is higher than the page.
+-- The one fault of a tune, by stages: of its header; if that has none, of its body or its score; if the score has
+-- none, that its voices can't share staves as they should; if they can, that it can't be moved; if it can, that no
+-- breaking is legal; and if one is, that a group of blocks is higher than the page.
 pub data IsFaultOfTune (tune : TuneText) (terms : Terms) : Fault → Type 0 where
   of_header : (fault : Fault) → header_fault tune ≡ Some fault → IsFaultOfTune tune terms fault
   of_score : (header : Header) (fault : Fault)
@@ -142,7 +143,7 @@ pub data IsFaultOfTune (tune : TuneText) (terms : Terms) : Fault → Type 0 wher
       → first_tall (body_height terms.paper) (blocks_of t.title t.heights) ≡ Some block
       → IsFaultOfTune tune terms (layout_fault tune (FaultKind.TooTall block))
 
--- The same of the stages up to the score; want of memory says nothing.
+-- The same for the stages up to the score; out of memory says nothing.
 abbrev pub IsScoreRefusal : TuneText → Defaults → TuneError → Type 0
 IsScoreRefusal tune defaults TuneError.Memory = ⊤
 IsScoreRefusal tune defaults (TuneError.Fault fault) =
@@ -177,7 +178,7 @@ IsLayoutRefusal tune width score (TuneError.Fault fault) =
     × IsNoWay score width reached spans
     × (fault ≡ layout_fault tune (FaultKind.NoWay reached))
 
--- why a tune that is laid out isn't set
+-- why a laid-out tune isn't set
 abbrev pub IsTallRefusal : TuneText → ℕ → SetTune → TuneError → Type 0
 IsTallRefusal tune high t TuneError.Memory = ⊤
 IsTallRefusal tune high t (TuneError.Fault fault) =
@@ -185,7 +186,7 @@ IsTallRefusal tune high t (TuneError.Fault fault) =
     × (first_tall high (blocks_of t.title t.heights) ≡ Some block)
     × (fault ≡ layout_fault tune (FaultKind.TooTall block))
 
--- want of memory says nothing
+-- out of memory says nothing
 abbrev pub IsRefusal : TuneText → Terms → TuneError → Type 0
 IsRefusal tune terms TuneError.Memory = ⊤
 IsRefusal tune terms (TuneError.Fault fault) = IsFaultOfTune tune terms fault

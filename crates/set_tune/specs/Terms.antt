@@ -1,11 +1,11 @@
--- What a tune is set by: the defaults of its file, its paper, and the manner of setting. The number of jobs isn't part
--- of it, so what is said of a tune that is set holds for any number of them.
+-- What a tune is set by: the defaults of its file, its paper, and the manner of setting. The number of jobs isn't
+-- part of it, so what contracts say about a tune that is set holds for any number of jobs.
 use Rattle.std.specs.Prelude.{ℤ, pos, Bool}
 use Rattle.abc_fields.specs.declared.defaults.Defaults.{Defaults}
 use Rattle.abc_fields.specs.declared.paper.Paper.{Paper}
 use Rattle.set_tune.specs.declared.how.How.{How}
 
--- with `flow` no bar is forced; the score is moved by so many semitones
+-- with `flow` no bar is forced; the score is moved by this many semitones
 pub record Manner : Type 0 where
   pub flow : Bool
   pub by : ℤ
@@ -27,6 +27,6 @@ manner_of how = manner_by how.flow how.by
 abbrev pub terms_of : Defaults → Paper → How → Terms
 terms_of defaults paper how = terms_by defaults paper (manner_of how)
 
--- as it is written
+-- the tune as it is written
 abbrev pub unmoved : Bool → Manner
 unmoved flow = manner_by flow (pos 0)

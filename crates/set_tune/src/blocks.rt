@@ -7,11 +7,11 @@ use lay_pages::{Block, Heights, TitleBlock};
 use mus_units::{Memory, Row};
 use std::alloc::Global;
 
-/// The greatest height that a block counts with, in u.
+/// The greatest height that counts for a block, in u.
 const HIGHEST: u64 = 1_099_511_627_776;
 
-/// The blocks of a tune on a page: the title block, where it has a row, tied to the system below it
-/// where there is one; and each system. A title block of more than 2^40 u counts as that high.
+/// Returns the blocks of a tune on a page: the title block, if it has a row, tied to the system below it if there is
+/// one; and each system. A title block of more than 2^40 u counts as 2^40 u high.
 #[tactic(auto, using(crate::proofs::GoodBlocks::good_blocks), unfolding(crate::specs::Blocks::blocks_of))]
 pub fn blocks_of(
     alloc: Global,
@@ -27,7 +27,7 @@ pub fn blocks_of(
     Ok(blocks)
 }
 
-/// Whether a title block stands above a system.
+/// Returns whether a title block is above a system.
 fn is_some_list(heights: &[Heights]) -> bool
     ensures { result ≡ is_some_list heights.now }
 {

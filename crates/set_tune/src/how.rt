@@ -3,8 +3,8 @@ ghost use Rattle.set_tune.specs.Terms.{manner_of, unmoved};
 
 use eng_jobs::Jobs;
 
-/// How a tune is set: with `flow` no bar is forced; its score is moved by so many semitones; and its
-/// rows of spans are made by so many jobs, with the same answer for every number of them.
+/// How a tune is set. With `flow` no bar is forced. The score is moved by a number of semitones. Its rows of spans
+/// are made by a number of jobs; the result is the same for every number of jobs.
 #[derive(Clone, Copy, PartialEq, Eq)]
 pub struct How {
     pub flow: bool,
@@ -13,7 +13,7 @@ pub struct How {
 }
 
 impl How {
-    /// As it is written, by one job.
+    /// Returns the setting of a tune as it is written, by one job.
     pub const fn unmoved(flow: bool) -> How
         ensures { manner_of result ≡ unmoved flow }
     {
@@ -24,7 +24,7 @@ impl How {
         }
     }
 
-    /// The same by so many jobs.
+    /// Returns the same setting by `jobs` jobs.
     pub const fn with_jobs(self, jobs: Jobs) -> How
         ensures { manner_of result ≡ manner_of self }
     {

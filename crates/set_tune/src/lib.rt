@@ -1,5 +1,5 @@
-//! A tune set: its header, its score, moved where that is asked, the score laid out in systems, and
-//! the blocks that these make on pages; or the tune's one fault.
+//! Sets a tune. The result is its header, its score, moved if that is asked, the score laid out in systems, and the
+//! blocks that these make on pages; or the tune's one fault.
 #![tactic(auto)]
 
 pub mod blocks;

@@ -35,7 +35,7 @@ use mus_units::Memory;
 use std::alloc::Global;
 use std::thread::Threads;
 
-/// A tune set on paper as it is written, by one job: `set_how` with a score that isn't moved.
+/// Sets a tune on paper as it is written, by one job: `set_how` with a score that isn't moved.
 pub fn set<R: Threads + Sync>(
     rt: &R,
     alloc: Global,
@@ -53,14 +53,14 @@ pub fn set<R: Threads + Sync>(
     set_how(rt, alloc, tune, defaults, paper, How::unmoved(flow))
 }
 
-/// A tune set on paper: its header, its score as it is drawn, moved by so many semitones as `how`
-/// says, the score laid out on the width of the body, and its title block; or the first of its faults.
-/// Where `how` says so, no bar is forced. What comes is the same for every number of its jobs.
+/// Sets a tune on paper. Returns its header, its score as drawn and moved by the semitones in `how`, the score laid
+/// out on the width of the body, and its title block; or the first of its faults. If `how` says so, no bar is forced.
+/// The result is the same for every number of jobs.
 ///
-/// A fault is of the header, or else of the body, or else of the score; or else its voices can't
-/// share staves as `%%score` says, or else the score can't be moved so far, or else no breaking of
-/// its measures is legal, or else a group of its blocks is higher than the body. The last three are
-/// told at the tune's first line, and so is a fault of the file's `%%score`.
+/// The fault is the first of these that applies: a fault of the header; of the body; of the score; its voices can't
+/// share staves as `%%score` says; the score can't be moved that far; no breaking of its measures is legal; a group
+/// of its blocks is higher than the body. The last three are reported at the tune's first line, and so is a fault of
+/// the file's `%%score`.
 pub fn set_how<R: Threads + Sync>(
     rt: &R,
     alloc: Global,
@@ -86,7 +86,7 @@ pub fn set_how<R: Threads + Sync>(
     }
 }
 
-/// The header of a tune and its score, drawn and moved, or the first fault up to there.
+/// Returns the header of a tune and its score, drawn and moved, or the first fault up to there.
 fn moved_score(
     alloc: Global,
     tune: &TuneText,
@@ -112,7 +112,7 @@ fn moved_score(
     }
 }
 
-/// The header of a tune and its score as it is written, or the first fault of either.
+/// Returns the header of a tune and its score as it is written, or the first fault of either.
 fn read_score(
     alloc: Global,
     tune: &TuneText,
@@ -134,7 +134,7 @@ fn read_score(
     }
 }
 
-/// The score that is drawn: the written one, or what the line of its staves makes of it.
+/// Returns the score to draw: the written one, or what the line of its staves makes of it.
 fn draw_score(alloc: Global, written: Score, staves: &Option<Line>) -> Result<Score, TuneError>
     requires { IsGoodScore written }
     ensures drawn { IfOk result (λ drawn. IsScoreDrawn staves.now written (Ok drawn)) }
@@ -147,7 +147,7 @@ fn draw_score(alloc: Global, written: Score, staves: &Option<Line>) -> Result<Sc
     }
 }
 
-/// The score that is drawn as a line says, or the fault of the line.
+/// Returns the score to draw as a line says, or the fault of the line.
 fn draw_by(alloc: Global, written: &Score, line: &Line) -> Result<Score, TuneError>
     requires { IsGoodScore written.now }
     ensures drawn { IfOk result (λ drawn. IsScoreDrawn (Some line.now) written.now (Ok drawn)) }
@@ -164,7 +164,7 @@ fn draw_by(alloc: Global, written: &Score, line: &Line) -> Result<Score, TuneErr
     Ok(drawn(alloc, written, &plan)?)
 }
 
-/// The plan that a line spells for the voices of a score.
+/// Returns the plan that a line spells for the voices of a score.
 fn plan_of(alloc: Global, written: &Score, line: &Line) -> Result<Option<Plan>, Memory>
     requires { IsGoodScore written.now }
     ensures spells { IfOk result (λ read. IfSome read (SpellsPlan (score_ids written.now) line.now.text)) }
@@ -176,7 +176,7 @@ fn plan_of(alloc: Global, written: &Score, line: &Line) -> Result<Option<Plan>, 
     read_plan(alloc, line.text.as_slice(), ids.as_slice())
 }
 
-/// A fault of the line that says how voices share staves.
+/// Returns a fault of the line that says how voices share staves.
 fn share_fault(line: &Line, kind: FaultKind) -> TuneError
     ensures { result ≡ errors.Fault (share_fault line.now kind) }
 {
@@ -187,7 +187,7 @@ fn share_fault(line: &Line, kind: FaultKind) -> TuneError
     })
 }
 
-/// The score moved by so many semitones, or the fault of one that can't be moved so far.
+/// Returns the score moved by a number of semitones, or the fault if it can't be moved that far.
 fn move_score(
     alloc: Global,
     tune: &TuneText,
@@ -208,7 +208,7 @@ fn move_score(
     }
 }
 
-/// The number of the first line.
+/// Returns the number of the first line.
 fn first_line(lines: &[Line]) -> u32
     ensures { result ≡ first_line_number lines.now }
 {
@@ -218,7 +218,7 @@ fn first_line(lines: &[Line]) -> u32
     }
 }
 
-/// A fault of the move or of the layout, at the first line of the tune.
+/// Returns a fault of the move or of the layout, at the first line of the tune.
 fn layout_fault(tune: &TuneText, kind: FaultKind) -> TuneError
     ensures { result ≡ errors.Fault (layout_fault tune.now kind) }
 {
@@ -229,7 +229,7 @@ fn layout_fault(tune: &TuneText, kind: FaultKind) -> TuneError
     })
 }
 
-/// The title block of a header.
+/// Returns the title block of a header.
 fn title_of(alloc: Global, width: u32, header: &Header) -> Result<TitleBlock, Memory>
     requires titles { length header.now.titles ≤ 2 ^ 32 }
     requires composers { length header.now.composers ≤ 2 ^ 32 }
@@ -245,7 +245,7 @@ fn title_of(alloc: Global, width: u32, header: &Header) -> Result<TitleBlock, Me
     )
 }
 
-/// A score laid out on a width by so many jobs, under the title block of its header.
+/// Lays out a score on a width by `jobs` jobs, under the title block of its header.
 fn lay_out_score<R: Threads + Sync>(
     rt: &R,
     alloc: Global,
@@ -288,7 +288,7 @@ fn lay_out_score<R: Threads + Sync>(
     })
 }
 
-/// The same tune, if none of its groups of blocks is higher than the body.
+/// Returns the same tune if none of its groups of blocks is higher than the body.
 fn on_pages(alloc: Global, tune: &TuneText, high: u32, laid: SetTune) -> Result<SetTune, TuneError>
     requires good { IsGoodScore laid.score }
     requires laid { (width : ℕ) × IsLaidOut width laid }

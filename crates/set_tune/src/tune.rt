@@ -6,10 +6,9 @@ use mus_laid::SystemMarks;
 use mus_score::Score;
 use mus_units::Row;
 
-/// A tune that is set: its header and its score; the rows of its title block; the spans of its
-/// measures that fit a system, each with its badness, and the breaking that is chosen among them;
-/// and for each span of the breaking, in order, the marks of the system, where its columns stand,
-/// in u from the left, and how its staves are stacked.
+/// A tune that is set: its header and its score; the rows of its title block; the spans of its measures that fit a
+/// system, each with its badness, and the breaking chosen among them. For each span of the breaking, in order, it has
+/// the marks of the system, the places of its columns, in u from the left, and how its staves are stacked.
 #[derive(Drop)]
 pub struct SetTune {
     pub header: Header,
