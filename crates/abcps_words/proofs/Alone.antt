@@ -1,4 +1,4 @@
--- Words ask for one command, and its numbers are in range.
+-- Words ask for at most one command, and its numbers are in range.
 use Rattle.std.proofs.Common.{◌≡◌, ℕ, pos, if◌then◌else◌, ◌==◌, List, ◌++◌, Option, Some, None, MatchOption, IfSome}
 use Rattle.std.proofs.Common.{IfNone, unwrap_or, refl, sym, ◌∙◌, ap, subst, arith, decimal}
 use Rattle.std.proofs.lemmas.Fmt.{decimal_is_IsNumeral}
@@ -19,7 +19,7 @@ spread_back word =
     if key == 337 then Spread.Not else
     if key == 423 then Spread.Octave else Spread.Pitch
 
--- the command with this front and these options
+-- the command with these leading words and these options
 abbrev rebuilt : List (List ℕ) → Options → Command
 rebuilt front o =
     let key = key_of (head_of front) in let tunes = digits_value 10 (head_of (tail_of front)) in
@@ -74,7 +74,7 @@ good_by c flags options good is says = tt
 pub asked_is_good : AskedIsGood
 asked_is_good words c asks = good_by c asks.options asks.behind asks.tunes asks.spelled asks.says
 
--- what a command's front and its options, read from the same words, make of them
+-- what a command's leading words and its options, read from the same words, make of them
 module _ (words rest : List (List ℕ)) (c : Command) (o : Options) (flags : List Flag)
     (whole : words ≡ front_of c ++ rest) (is : IsSpelled flags rest) (says : o ≡ said flags) where
   asked : (d : Command) → front_of d ≡ front_of c → HasTunes d → SaysCommand o d → Asks words d

@@ -1,5 +1,5 @@
--- Options read one after another from the front: what stands read at each step,
--- and that no other options have the same words.
+-- Options read one after another from the start: what has been read at each step, and that no other options have the
+-- same words.
 use Rattle.std.proofs.Common.{◌≡◌, ℕ, ℤ, pos, negsuc, ◌+◌, ◌<◌, ◌≤◌, ◌^◌, Bool, true, false, cond, ◌||◌, List, [], ◌∷◌}
 use Rattle.std.proofs.Common.{◌++◌, length, Option, Some, None, is_some, unwrap_or, All, flat_map, refl, sym, ◌∙◌, ap}
 use Rattle.std.proofs.Common.{subst, arith, decimal, append_assoc}
@@ -50,7 +50,7 @@ some_words : (f : Flag) (xs : List (List ℕ)) → flag_words f ++ xs ≡ [] →
 some_words Flag.Flow xs e = let l = ap length e in omega arith
 some_words f xs e = let l = ap length e in omega arith
 
--- what was read stands in front of any options that have the same words
+-- what was read is a prefix of any options that have the same words
 pub what_follows : (seen flags : List Flag) (rest : List (List ℕ))
     → All IsFlag seen → All IsFlag flags → flat_map flag_words seen ++ rest ≡ flat_map flag_words flags
     → (more : List Flag) × (flags ≡ seen ++ more) × (rest ≡ flat_map flag_words more) × All IsFlag more
@@ -95,7 +95,7 @@ any_counted p (x ∷ xs) b e = by_test (any_counted p xs) (p x) refl b e
         let k = more false e in
         omega arith)
 
--- ---- numbers that options say
+-- ---- numbers that options give
 jobs_any : (n : ℕ) (xs : List Flag) → is_some (first_said jobs_of xs) ≡ list_any (same_kind (Flag.Jobs n)) xs
 jobs_any n [] = refl
 jobs_any n (Flag.Jobs m ∷ xs) = refl
@@ -123,7 +123,7 @@ first_kept : {A : Type 0} (p : Flag → Option A) (xs : List Flag) (f : Flag)
 first_kept p [] f e = rw e refl
 first_kept p (x ∷ xs) f e = ap (λ o. option_or (p x) o) (first_kept p xs f e)
 
--- Among these words stand options that were read, each once, and then the rest; together they say this.
+-- These words begin with options that were read, each once, followed by the rest; together the options say this.
 pub record IsRead (words rest : List (List ℕ)) (o : Options) : Type 0 where
   pub seen : List Flag
   pub spelled : words ≡ flat_map flag_words seen ++ rest
@@ -209,7 +209,7 @@ said_more seen (Flag.Transpose z) none =
       first_behind half_steps_of seen (f ∷ []) none,
     ) refl
 
--- one more option that may stand
+-- one more option that may be given
 fits : (seen : List Flag) → IsOnce seen → (f : Flag) → has_kind (said seen) f ≡ false → IsOnce (seen ++ f ∷ [])
 fits seen once f none g = by_test (same_kind g f) refl
   where
@@ -237,7 +237,7 @@ adds_one seen once f o e = by_kind (has_kind (said seen) f) refl e
     by_kind false is e =
         (fits seen once f is, (let same : with_flag (said seen) f ≡ o = cc in sym same ∙ said_more seen f is))
 
--- an option that may not stand once more
+-- an option that may not be given again
 twice : (seen more : List Flag) (f : Flag) → with_option (said seen) f ≡ None → IsOnce (seen ++ f ∷ more) → ⊥
 twice seen more f e once = by_kind (has_kind (said seen) f) refl e
   where

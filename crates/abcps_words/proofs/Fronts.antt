@@ -1,4 +1,4 @@
--- What the first words can't be, and where the front of a command ends.
+-- What the first words can't be, and where the leading words of a command end.
 use Rattle.std.proofs.Common.{◌≡◌, ℕ, ℤ, ◌+◌, true, false, ◌||◌, ◌==◌, if◌then◌else◌, List, [], ◌∷◌, ◌++◌, take, drop}
 use Rattle.std.proofs.Common.{codes, refl, sym, ◌∙◌, ap, arith, decimal}
 use Rattle.std.proofs.lemmas.Bool.{true≢false}
@@ -93,7 +93,7 @@ pub no_hear : (word : List ℕ) (words : List (List ℕ))
 no_hear word words is none (Command.Hear spread) rest e = none spread rest (ap tail_of e)
 no_hear word words is none c rest e = clash (codes "hear") (word ∷ words) (front_of c ++ rest) e is refl
 
--- the front of a command is two words where the name is one of make, trial and hear, and else one
+-- the leading words of a command are two if the name is make, trial or hear, and otherwise one
 abbrev front_length : List (List ℕ) → ℕ
 front_length words =
     if (key_of (head_of words) == 414) || (key_of (head_of words) == 432) || (key_of (head_of words) == 416) then 2

@@ -1,11 +1,11 @@
--- Options one after another, as the words are read: what they say with one more, where none of its kind is among them.
+-- Options one after another, as the words are read: what they say with one more, if none of its kind is among them.
 use Rattle.std.specs.Prelude.{Bool, true, false, if◌then◌else◌, Option, Some, None, is_some}
 use Rattle.abcps_words.specs.declared.options.{Flag.Flag, Options.Options}
 
 abbrev pub no_options : Options
 no_options = record { flow = false; table = false; even = false; jobs = None; by = None }
 
--- one of this kind is among them
+-- an option of this kind is among them
 abbrev pub has_kind : Options → Flag → Bool
 has_kind o Flag.Flow = o.flow
 has_kind o Flag.Table = o.table

@@ -4,7 +4,8 @@ use Rattle.abcps_words.specs.declared.options.Flag.{Flag}
 use Rattle.abcps_words.specs.declared.command.Command.{Command}
 use Rattle.abcps_words.specs.Words.{IsUpTo, IsMove, front_of, HasTunes, IsSpelled, said, SaysCommand}
 
--- The words ask for this command: they are its front and options that it takes, in any order, each at most once.
+-- The words ask for this command: they are its leading words and options that it takes, in any order, each at most
+-- once.
 pub record Asks (words : List (List ℕ)) (c : Command) : Type 0 where
   pub options : List Flag
   pub behind : List (List ℕ)
@@ -28,7 +29,8 @@ IsGoodCommand (Command.Trial tunes flow jobs even) = IsUpTo 500 tunes × IsUpTo 
 IsGoodCommand Command.Paint = ⊤
 IsGoodCommand (Command.Hear spread) = ⊤
 
--- the most bytes that a command may read: 8 MiB of a book, 256 MiB of pages, a listing or what is painted, or none
+-- the most bytes that a command may read: 8 MiB of a book; 256 MiB of pages, a listing or the input of `paint`; or
+-- none
 abbrev pub limit_of : Command → ℕ
 limit_of (Command.Set flow jobs by even) = 8388608
 limit_of (Command.Systems flow table by) = 8388608
@@ -39,7 +41,7 @@ limit_of (Command.Trial tunes flow jobs even) = 0
 limit_of Command.Paint = 268435456
 limit_of (Command.Hear spread) = 268435456
 
--- words ask for one command
+-- words ask for at most one command
 abbrev pub AsksOne : Type 0
 AsksOne = (words : List (List ℕ)) (c d : Command) → Asks words c → Asks words d → c ≡ d
 

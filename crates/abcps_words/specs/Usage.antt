@@ -1,4 +1,4 @@
--- The line that lists the forms of the words. It is told where the words are in none of them.
+-- The line that lists the forms of the words. It is reported if the words have none of these forms.
 use Rattle.std.specs.Prelude.{ℕ, List, [], ◌∷◌, ◌++◌, codes}
 
 unfoldable pub usage_line : List ℕ

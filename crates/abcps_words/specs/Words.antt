@@ -1,4 +1,4 @@
--- The words of a command: its name, the number of tunes or the spread where it takes one, and its options in any order,
+-- The words of a command: its name, the number of tunes or the spread if it takes one, and its options in any order,
 -- each at most once.
 use Rattle.std.specs.Prelude.{◌≡◌, ◌≤◌, ◌≤ℤ◌, ⊤, ℕ, ℤ, pos, negsuc, Bool, true, false, List, [], ◌∷◌, All, Option, Some}
 use Rattle.std.specs.Prelude.{None, unwrap_or, codes, decimal, flat_map, count_by}
@@ -16,7 +16,7 @@ pub record IsUpTo (most n : ℕ) : Type 0 where
   pub low : 1 ≤ n
   pub high : n ≤ most
 
--- a number of half steps, up or down an octave at most
+-- a number of half steps, at most an octave up or down
 pub record IsMove (z : ℤ) : Type 0 where
   pub low : negsuc 11 ≤ℤ z
   pub high : z ≤ℤ pos 12
@@ -38,7 +38,7 @@ spread_word Spread.Not = codes "not"
 spread_word Spread.Octave = codes "octave"
 spread_word Spread.Pitch = codes "pitch"
 
--- the words before the options: the name, and directly behind it the number of tunes or the spread
+-- the words before the options: the name, directly followed by the number of tunes or the spread
 abbrev pub front_of : Command → List (List ℕ)
 front_of (Command.Set flow jobs by even) = name_bytes Name.Set ∷ []
 front_of (Command.Systems flow table by) = name_bytes Name.Systems ∷ []
@@ -68,7 +68,7 @@ flag_words Flag.Even = codes "--even" ∷ []
 flag_words (Flag.Jobs jobs) = codes "--jobs" ∷ decimal jobs ∷ []
 flag_words (Flag.Transpose by) = codes "--transpose" ∷ signed_decimal by ∷ []
 
--- a number of jobs is 1 to 64, and one of half steps -12 to 12
+-- a number of jobs is 1 to 64, and a number of half steps is -12 to 12
 abbrev pub IsFlag : Flag → Type 0
 IsFlag Flag.Flow = ⊤
 IsFlag Flag.Table = ⊤
@@ -89,13 +89,13 @@ same_kind _ _ = false
 abbrev pub IsOnce : List Flag → Type 0
 IsOnce flags = (f : Flag) → count_by (same_kind f) flags ≤ 1
 
--- the words are those of the options, each of which stands at most once
+-- the words are those of the options, each of which is there at most once
 pub record IsSpelled (flags : List Flag) (words : List (List ℕ)) : Type 0 where
   pub spelled : words ≡ flat_map flag_words flags
   pub in_range : All IsFlag flags
   pub once : IsOnce flags
 
--- the number of jobs, and that of half steps, that an option says
+-- the number of jobs and the number of half steps that an option says
 abbrev pub jobs_of : Flag → Option ℕ
 jobs_of (Flag.Jobs jobs) = Some jobs
 jobs_of _ = None
@@ -119,7 +119,7 @@ said flags = record {
   by = first_said half_steps_of flags;
 }
 
--- no option is said
+-- no option is given
 pub record IsBare (o : Options) : Type 0 where
   pub flow : o.flow ≡ false
   pub table : o.table ≡ false
@@ -127,7 +127,8 @@ pub record IsBare (o : Options) : Type 0 where
   pub jobs : o.jobs ≡ None
   pub by : o.by ≡ None
 
--- A command says what its options say, and takes no others: 1 job where none says how many, and no half step.
+-- A command says what its options say, and takes no others: 1 job if no option gives the jobs, and no half step if
+-- none gives the half steps.
 abbrev pub SaysCommand : Options → Command → Type 0
 SaysCommand o (Command.Set flow jobs by even) =
     (flow ≡ o.flow) × (jobs ≡ unwrap_or o.jobs 1) × (by ≡ unwrap_or o.by (pos 0)) × (even ≡ o.even) × (o.table ≡ false)

@@ -23,39 +23,39 @@ enum Name {
 /// What the program is asked to do.
 #[derive(Clone, Copy, PartialEq, Eq)]
 pub enum Command {
-    /// Read a book, and write its pages: `flow` with no line break forced, by 1 to
-    /// 64 `jobs`, -12 to 12 half steps higher, and with `even` on even pages.
+    /// Read a book and write its pages by 1 to 64 `jobs`, -12 to 12 half steps higher, with `even` on even pages;
+    /// with `flow` no line break is forced.
     Set {
         flow: bool,
         jobs: u8,
         by: i8,
         even: bool,
     },
-    /// Read a book, and write its systems: with `table` as a listing, and -12 to 12 half steps higher.
+    /// Read a book and write its systems: with `table` as a listing, and -12 to 12 half steps higher.
     Systems {
         flow: bool,
         table: bool,
         by: i8,
     },
-    /// Read pages, and print what they show.
+    /// Read pages and print what they show.
     Inspect,
-    /// Read a listing, and judge it.
+    /// Read a listing and judge it.
     Check,
     /// Write the generated book of 1 to 500 tunes.
     Make {
         tunes: u32,
     },
-    /// Set the generated book of 1 to 500 tunes by 1 to 64 `jobs`, with `even` on even pages, and
-    /// write one line on it.
+    /// Set the generated book of 1 to 500 tunes by 1 to 64 `jobs`, with `even` on even pages, and write one line
+    /// about it.
     Trial {
         tunes: u32,
         flow: bool,
         jobs: u8,
         even: bool,
     },
-    /// Run any bytes as pages, and print what they paint.
+    /// Run any bytes as pages and print what they paint.
     Paint,
-    /// Read pages, and print what their tunes sound where a sign reaches as far as `spread` says.
+    /// Read pages and print what their tunes sound, if an accidental reaches as far as `spread` says.
     Hear {
         spread: Spread,
     },
@@ -64,24 +64,24 @@ pub enum Command {
 /// The most bytes that a book may have.
 pub const BOOK_LIMIT: u64 = 8_388_608;
 
-/// The most bytes that pages, a listing and what is painted may have.
+/// The most bytes that pages, a listing or the input of `paint` may have.
 pub const PAGES_LIMIT: u64 = 268_435_456;
 
 const MOST_TUNES: u32 = 500;
 
-/// The number of jobs where no option says it.
+/// The number of jobs if no option gives it.
 const DEFAULT_JOBS: u8 = 1;
 
-/// The half steps where no option says them.
+/// The half steps if no option gives them.
 const DEFAULT_HALF_STEPS: i8 = 0;
 
-/// The text of the usage line; `usage` gives it.
+/// The text of the usage line, which `usage` returns.
 const USAGE: &[u8] =
     b"usage: abcps set [--flow] [--jobs N] [--transpose N] [--even] | systems [--flow] [--table] [--transpose N] | \
       inspect | check | make N | trial N [--flow] [--jobs N] [--even] | paint | hear W\n";
 
 impl Command {
-    /// The most bytes that its input may have; 0 where it reads none.
+    /// Returns the most bytes that the command's input may have; 0 if it reads none.
     pub fn limit(self) -> u64
         ensures { result ≡ limit_of self }
     {
@@ -93,7 +93,7 @@ impl Command {
         }
     }
 
-    /// The same command with what its options say, where it takes them.
+    /// Returns the same command with what its options say, if it takes them.
     fn with_options(self, options: Options) -> Option<Command>
         requires { HasTunes self }
         ensures { MatchOption result
@@ -133,7 +133,7 @@ impl Command {
     }
 }
 
-/// The name that a word is.
+/// Returns the name that a word is.
 fn name_of(word: &[u8]) -> Option<Name>
     ensures { MatchOption result ((name : Name) → word.now ≡ name_bytes name → ⊥) (λ name. word.now ≡ name_bytes name) }
 {
@@ -158,7 +158,7 @@ fn name_of(word: &[u8]) -> Option<Name>
     }
 }
 
-/// The spread that a word is.
+/// Returns the spread that a word is.
 fn spread_of(word: &[u8]) -> Option<Spread>
     ensures { MatchOption result ((spread : Spread) → word.now ≡ spread_word spread → ⊥)
         (λ spread. word.now ≡ spread_word spread) }
@@ -174,7 +174,7 @@ fn spread_of(word: &[u8]) -> Option<Spread>
     }
 }
 
-/// The spread that the first word is, and the words behind it.
+/// Returns the spread that the first word is, and the words after it.
 fn take_spread(words: &[String]) -> Option<(Spread, &[String])>
     ensures { MatchOption result
         ((spread : Spread) (rest : List (List ℕ)) → map string_bytes words.now ≡ spread_word spread ∷ rest → ⊥)
@@ -184,7 +184,7 @@ fn take_spread(words: &[String]) -> Option<(Spread, &[String])>
     Some((spread_of(word.as_bytes())?, rest))
 }
 
-/// The command that the first words name, without options, and the words behind them.
+/// Returns the command that the first words name, without options, and the words after them.
 fn take_front(words: &[String]) -> Option<(Command, &[String])>
     ensures { MatchOption result
         ((c : Command) (rest : List (List ℕ)) → HasTunes c → map string_bytes words.now ≡ front_of c ++ rest → ⊥)
@@ -235,7 +235,7 @@ fn take_front(words: &[String]) -> Option<(Command, &[String])>
     }
 }
 
-/// The command that the words ask for; `None` exactly where they ask for none. Takes no memory.
+/// Returns the command that the words ask for; `None` exactly if they ask for none. Takes no memory.
 pub fn command_of(words: &[String]) -> Option<Command>
     ensures asks { IfSome result (λ c. Asks (map string_bytes words.now) c) }
     ensures ranges { IfSome result IsGoodCommand }
@@ -245,7 +245,7 @@ pub fn command_of(words: &[String]) -> Option<Command>
     command.with_options(options_of(rest)?)
 }
 
-/// The line that lists the forms of the words, with its line feed.
+/// Returns the line that lists the forms of the words, with its line feed.
 #[tactic(auto, unfolding(crate::specs::Usage::usage_line))]
 pub fn usage() -> &'static [u8]
     ensures { result.now ≡ usage_line }
@@ -253,7 +253,7 @@ pub fn usage() -> &'static [u8]
     USAGE
 }
 
-/// The law that words ask for one command.
+/// The law that words ask for at most one command.
 pub fn asks_one()
     ensures { AsksOne }
 {}

@@ -1,6 +1,6 @@
 //! The words of a command line: the command that they ask for, with its options.
 //!
-//! `command_of` reads the words and takes no memory; `usage` is the line that lists the forms.
+//! `command_of` reads the words and takes no memory; `usage` returns the line that lists the forms.
 #![tactic(auto)]
 
 pub mod command;

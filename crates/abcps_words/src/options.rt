@@ -5,7 +5,7 @@ ghost use Rattle.abcps_words.specs.Adding.{with_option, no_options};
 
 use crate::words::{is_word, take_half_steps, take_number};
 
-/// An option, as it stands among the words.
+/// An option among the words.
 #[derive(Clone, Copy, PartialEq, Eq)]
 pub enum Flag {
     /// `--flow`
@@ -20,24 +20,24 @@ pub enum Flag {
     Transpose(i8),
 }
 
-/// What options say together.
+/// What the options say together.
 #[derive(Clone, Copy, PartialEq, Eq)]
 pub struct Options {
-    /// Whether `--flow` is among them.
+    /// Whether `--flow` is given.
     pub flow: bool,
-    /// Whether `--table` is among them.
+    /// Whether `--table` is given.
     pub table: bool,
-    /// Whether `--even` is among them.
+    /// Whether `--even` is given.
     pub even: bool,
-    /// The number of `--jobs`, where it is among them.
+    /// The number of `--jobs`, if given.
     pub jobs: Option<u8>,
-    /// The half steps of `--transpose`, where it is among them.
+    /// The half steps of `--transpose`, if given.
     pub by: Option<i8>,
 }
 
 const MOST_JOBS: u32 = 64;
 
-/// The number of jobs at the front of the words, and the words behind it.
+/// Returns the number of jobs at the start of the words, and the words after it.
 fn take_jobs(words: &[String]) -> Option<(u8, &[String])>
     ensures { MatchOption result
         ((n : ℕ) (rest : List (List ℕ)) → IsUpTo 64 n → map string_bytes words.now ≡ decimal n ∷ rest → ⊥)
@@ -47,7 +47,7 @@ fn take_jobs(words: &[String]) -> Option<(u8, &[String])>
     Some((jobs as u8, rest))
 }
 
-/// The option at the front of the words, and the words behind it.
+/// Returns the option at the start of the words, and the words after it.
 fn take_flag(words: &[String]) -> Option<(Flag, &[String])>
     ensures { MatchOption result
         ((flag : Flag) (rest : List (List ℕ)) → IsFlag flag → map string_bytes words.now ≡ flag_words flag ++ rest → ⊥)
@@ -72,7 +72,7 @@ fn take_flag(words: &[String]) -> Option<(Flag, &[String])>
 }
 
 impl Options {
-    /// What no options say.
+    /// Returns what no options say.
     pub const fn none() -> Options
         ensures { result ≡ no_options }
     {
@@ -85,7 +85,7 @@ impl Options {
         }
     }
 
-    /// What they say with one more option, where none of its kind is among them.
+    /// Returns what the options say with one more, if none of its kind is among them.
     fn with(self, flag: Flag) -> Option<Options>
         ensures { result ≡ with_option self flag }
     {
@@ -109,7 +109,7 @@ impl Options {
     }
 }
 
-/// What the options say that these words spell, each at most once.
+/// Returns what the options spelled by these words say, each given at most once.
 pub fn options_of(words: &[String]) -> Option<Options>
     ensures { MatchOption result
         ((flags : List Flag) → IsSpelled flags (map string_bytes words.now) → ⊥)

@@ -5,17 +5,17 @@ ghost use Rattle.abcps_words.specs.Words.{IsUpTo, IsMove};
 
 use eng_lines::{small_number, strip};
 
-/// The most half steps up or down.
+/// The most half steps, up or down.
 const MOST_HALF_STEPS: u32 = 12;
 
-/// Whether a word is this one.
+/// Returns whether a word is this one.
 pub fn is_word(word: &[u8], this: &[u8]) -> bool
     ensures { IsTrue result ↔ (word.now ≡ this.now) }
 {
     word == this
 }
 
-/// The number between two bounds that a word spells in decimal, without leading zeros.
+/// Returns the number between two bounds that a word spells in decimal, without leading zeros.
 #[tactic(auto, using(std::proofs::lemmas::Fmt::decimal_injective))]
 fn number(least: u32, most: u32, word: &[u8]) -> Option<u32>
     ensures { MatchOption result
@@ -28,7 +28,7 @@ fn number(least: u32, most: u32, word: &[u8]) -> Option<u32>
     }
 }
 
-/// The number from 1 to the most that the first word spells, and the words behind it.
+/// Returns the number from 1 to `most` that the first word spells, and the words after it.
 pub fn take_number(most: u32, words: &[String]) -> Option<(u32, &[String])>
     ensures { MatchOption result
         ((n : ℕ) (rest : List (List ℕ)) → IsUpTo most n → map string_bytes words.now ≡ decimal n ∷ rest → ⊥)
@@ -38,7 +38,7 @@ pub fn take_number(most: u32, words: &[String]) -> Option<(u32, &[String])>
     Some((number(1, most, word.as_bytes())?, rest))
 }
 
-/// The half steps below 0 that a word spells.
+/// Returns the half steps below 0 that a word spells.
 fn half_steps_down(word: &[u8]) -> Option<i8>
     ensures { MatchOption result
         ((n : ℕ) → n < 12 → word.now ≡ signed_decimal (negsuc n) → ⊥)
@@ -48,7 +48,7 @@ fn half_steps_down(word: &[u8]) -> Option<i8>
     Some(-(down as i8))
 }
 
-/// The half steps from 0 on that a word spells.
+/// Returns the half steps from 0 on that a word spells.
 fn half_steps_up(word: &[u8]) -> Option<i8>
     ensures { MatchOption result
         ((n : ℕ) → n ≤ 12 → word.now ≡ decimal n → ⊥)
@@ -58,7 +58,7 @@ fn half_steps_up(word: &[u8]) -> Option<i8>
     Some(up as i8)
 }
 
-/// The half steps from -12 to 12 that a word spells in decimal, without leading zeros.
+/// Returns the half steps from -12 to 12 that a word spells in decimal, without leading zeros.
 fn half_steps(word: &[u8]) -> Option<i8>
     ensures { MatchOption result ((z : ℤ) → IsMove z → word.now ≡ signed_decimal z → ⊥)
         (λ z. IsMove z × (word.now ≡ signed_decimal z)) }
@@ -69,7 +69,7 @@ fn half_steps(word: &[u8]) -> Option<i8>
     }
 }
 
-/// The half steps from -12 to 12 that the first word spells, and the words behind it.
+/// Returns the half steps from -12 to 12 that the first word spells, and the words after it.
 pub fn take_half_steps(words: &[String]) -> Option<(i8, &[String])>
     ensures { MatchOption result
         ((z : ℤ) (rest : List (List ℕ)) → IsMove z → map string_bytes words.now ≡ signed_decimal z ∷ rest → ⊥)

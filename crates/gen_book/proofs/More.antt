@@ -1,4 +1,4 @@
--- One line or one tune more.
+-- One more line or tune.
 use Rattle.std.proofs.Common.{◌≡◌, ◌∙◌, subst, ℕ, suc, ◌+◌, ◌-◌, ◌<◌, List, ◌++◌, append_assoc, arith}
 use Rattle.gen_book.specs.Book.{number_after_steps, line_behind, lines_behind, tune, tunes}
 

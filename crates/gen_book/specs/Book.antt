@@ -1,8 +1,8 @@
 -- The generated book of n tunes. Each tune has its number, a title, common time, eighths, one of four keys, and 16
--- lines of four measures; its letters come from a number that begins as the tune's.
+-- lines of four measures. Its letters come from a number that starts as the tune's.
 use Rattle.std.specs.Prelude.{ℕ, zero, suc, ◌+◌, ◌*◌, ◌/◌, ◌%◌, ◌^◌, List, [], ◌∷◌, ◌++◌, codes, decimal, slice_index}
 
--- the number behind a number
+-- the number after a number
 unfoldable pub next_number : ℕ → ℕ
 next_number s = (s * 1103515245 + 12345) % 2 ^ 31
 
@@ -10,12 +10,12 @@ next_number s = (s * 1103515245 + 12345) % 2 ^ 31
 unfoldable pub letter_of_note : ℕ → ℕ
 letter_of_note s = slice_index (codes "GABcdef") ((s / 65536) % 7)
 
--- the number so many steps behind a number
+-- the number this many steps after a number
 abbrev pub number_after_steps : ℕ → ℕ → ℕ
 number_after_steps zero s = s
 number_after_steps (suc k) s = next_number (number_after_steps k s)
 
--- the four letters behind a number
+-- the four letters after a number
 unfoldable pub half_behind : ℕ → List ℕ
 half_behind s =
     letter_of_note (number_after_steps 1 s) ∷ letter_of_note (number_after_steps 2 s)
@@ -25,7 +25,7 @@ half_behind s =
 unfoldable pub measure_behind : ℕ → List ℕ
 measure_behind s = half_behind s ++ 32 ∷ half_behind (number_after_steps 4 s) ++ 124 ∷ []
 
--- so many measures, with nothing between
+-- this many measures, with nothing between
 abbrev pub measures_behind : ℕ → ℕ → List ℕ
 measures_behind zero s = []
 measures_behind (suc k) s = measure_behind s ++ measures_behind k (number_after_steps 8 s)
@@ -34,7 +34,7 @@ measures_behind (suc k) s = measure_behind s ++ measures_behind k (number_after_
 unfoldable pub line_behind : ℕ → List ℕ
 line_behind s = measures_behind 4 s ++ 10 ∷ []
 
--- so many lines
+-- this many lines
 abbrev pub lines_behind : ℕ → ℕ → List ℕ
 lines_behind zero s = []
 lines_behind (suc k) s = line_behind s ++ lines_behind k (number_after_steps 32 s)
@@ -48,11 +48,11 @@ unfoldable pub heading_of_tune : ℕ → List ℕ
 heading_of_tune i =
     codes "X:" ++ decimal i ++ codes "\nT:Tune " ++ decimal i ++ codes "\nM:4/4\nL:1/8\nK:" ++ key_of_tune i ∷ 10 ∷ []
 
--- a tune, and the empty line behind it
+-- a tune, and the empty line after it
 unfoldable pub tune : ℕ → List ℕ
 tune i = heading_of_tune i ++ lines_behind 16 i ++ 10 ∷ []
 
--- so many tunes, the first with the number i
+-- this many tunes, the first with the number i
 abbrev pub tunes : ℕ → ℕ → List ℕ
 tunes zero i = []
 tunes (suc k) i = tune i ++ tunes k (i + 1)

@@ -11,7 +11,7 @@ const LETTERS: [u8; 7] = *b"GABcdef";
 
 const KEYS: [u8; 4] = *b"CGDF";
 
-/// The number behind a number.
+/// Returns the number after a number.
 #[tactic(auto, unfolding(crate::specs::Book::next_number))]
 fn next_of(s: u64) -> u64
     requires { s < 2 ^ 31 }
@@ -21,7 +21,7 @@ fn next_of(s: u64) -> u64
     (s * 1_103_515_245 + 12_345) % 2_147_483_648
 }
 
-/// The letter of a number.
+/// Returns the letter of a number.
 #[tactic(auto, unfolding(crate::specs::Book::letter_of_note))]
 fn letter(s: u64) -> u8
     ensures { result ≡ letter_of_note s }
@@ -29,7 +29,7 @@ fn letter(s: u64) -> u8
     LETTERS[(s / 65_536 % 7) as usize]
 }
 
-/// Adds the letter behind a number, and gives the number behind.
+/// Adds the letter of the number after `s`, and returns that number.
 fn put_letter(out: &mut Text, s: u64) -> Result<u64, Memory>
     requires { s < 2 ^ 31 }
     ensures text { OnOk result (out.new ≡ out.old ++ letter_of_note (next_number s) ∷ []) }
@@ -98,7 +98,7 @@ fn put_lines(out: &mut Text, i: u32) -> Result<(), Memory>
     Ok(())
 }
 
-/// The letter of a tune's key.
+/// Returns the letter of a tune's key.
 #[tactic(auto, unfolding(crate::specs::Book::key_of_tune))]
 fn key(i: u32) -> u8
     ensures { result ≡ key_of_tune i }
@@ -131,7 +131,7 @@ fn put_tune(out: &mut Text, i: u32) -> Result<(), Memory>
     out.push(b'\n')
 }
 
-/// The generated book of 1 to 500 tunes, in ABC notation: at most 350,000 bytes.
+/// Returns the generated book of 1 to 500 tunes, in ABC notation: at most 350,000 bytes.
 #[tactic(auto, unfolding(crate::specs::Book::book))]
 pub fn make(alloc: Global, n: u32) -> Result<Text, Memory>
     requires some { 1 ≤ n }
