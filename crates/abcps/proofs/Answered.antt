@@ -1,4 +1,4 @@
--- What is answered where both texts are written, and where something else is called for.
+-- The answer when both texts are written, and when something else is called for.
 use Rattle.std.proofs.Common.{◌≡◌, refl, sym, subst, ◌⊎◌, inl, inr, List, [], ℕ, ◌≤◌, length, Option}
 use Rattle.std.specs.Io.KnownBytes.{Consumes, IsAtEnd}
 use Rattle.abcps_words.specs.{declared.command.Command.Command, Command.{Asks, limit_of}}
@@ -22,7 +22,7 @@ answered_whole called o e Status.SomeRefused end is page told = (called, refl, i
 answered_whole called o e Status.NotLeast end is page told = (called, refl, is, page, told)
 answered_whole called o e s end is page told = absurd end
 
--- output has its whole text, and then errors was told its own
+-- output has its whole text, and then errors got its own
 pub answered_end : (called : Called) (o e : Stream) (s : Status)
     → IsCompleteStatus called.status → WroteWhole o called.page
     → ((s ≡ called.status) × WroteWhole e called.told) ⊎ ((s ≡ Status.WriteFault) × FailedAfterPrefix e called.told)
@@ -32,7 +32,7 @@ answered_end called o e s end page (inl told) =
 answered_end called o e s end page (inr cut) =
     subst (λ t. IsAnswered (Is called) t o e) (sym cut.0) (called, refl, inr (page, cut.1))
 
--- what is answered for something is answered for what it is
+-- an answer for something is an answer for anything equal to it
 pub answered_weaker : (C D : Called → Type 0)
     → ((called : Called) → C called → D called) → (o e : Stream) (s : Status) → IsAnswered C s o e → IsAnswered D s o e
 answered_weaker C D give o e Status.Done r = (r.0, give r.0 r.1, r.2, r.3, r.4)
@@ -43,7 +43,7 @@ answered_weaker C D give o e Status.Memory (quiet, inl none) = (quiet, inl none)
 answered_weaker C D give o e Status.Memory (quiet, inr part) = (quiet, inr (part.0, give part.0 part.1, part.2))
 answered_weaker C D give o e s r = absurd r
 
--- what is answered for something is answered for what a command calls for, if that is it
+-- an answer for something is an answer for what a command calls for, if they are equal
 pub answer_of : (c : Command) (text : List ℕ) (C : Called → Type 0)
     → ((called : Called) → C called → Calls c text called) → (o e : Stream) (s : Status) → IsAnswered C s o e
     → IsAnswer c s text o e
@@ -55,7 +55,7 @@ answer_of c text C give o e Status.Memory (quiet, inl none) = (quiet, inl none)
 answer_of c text C give o e Status.Memory (quiet, inr part) = (quiet, inr (inl (part.0, give part.0 part.1, part.2)))
 answer_of c text C give o e s r = absurd r
 
--- the same of one thing that is called for
+-- the same for one thing that is called for
 pub answer_by : (c : Command) (text : List ℕ) (called : Called)
     → Calls c text called → (o e : Stream) (s : Status) → IsAnswered (Is called) s o e → IsAnswer c s text o e
 answer_by c text called calls o e s r =
@@ -73,7 +73,7 @@ answer_refused c text (Refusal.NotPages line) o e s refuses quiet (inr told) =
 answer_refused c text (Refusal.Halted token cause) o e s refuses quiet (inr told) =
     subst (λ t. IsAnswer c t text o e) (sym told.0) (Refusal.Halted token cause, refuses, refl, quiet, told.1)
 
--- what was read of a command that reads
+-- what was read by a command that reads
 pub read_of : (c : Command) (i : Stream) (text : List ℕ)
     → ReadsInput c → ReadAll (limit_of c) i text → IsInputRead c i text
 read_of (Command.Make tunes) i text reads read = absurd reads
@@ -90,13 +90,13 @@ obeyed_of c i o e text Status.Memory read (quiet, inl none) = (quiet, inl none)
 obeyed_of c i o e text Status.Memory read (quiet, inr part) = (quiet, inr (text, read, part))
 obeyed_of c i o e text s read r = (text, read, r)
 
--- what a command answers a run answers that asks for it
+-- the answer of a command is the answer of a run that asks for it
 pub run_of : (words : List (List ℕ)) (c : Command) (i o e : Stream) (s : Status)
     → Asks words c → IsCommandAnswer c s i o e → IsRunAnswer s words i o e
 run_of words c i o e Status.Usage asked r = absurd r.2
 run_of words c i o e s asked r = (c, asked, r)
 
--- an input was read to its end, and what was asked with it was answered
+-- an input was read to its end, and the request with it was answered
 pub read_obeyed : (c : Command) (before after : Option (List ℕ)) (count_before count_after limit : ℕ) (text : List ℕ)
     (o e : Stream) (s : Status)
     → ReadsInput c → limit ≡ limit_of c → Consumes before after text → IsAtEnd after → length text ≤ limit
@@ -115,7 +115,7 @@ read_obeyed c before after count_before count_after limit text o e s reads is ta
 abbrev pub untouched : Option (List ℕ) → ℕ → Stream
 untouched left count = record { before = left; after = left; count_before = count; count_after = count }
 
--- what was asked without an input was answered
+-- a request without an input was answered
 pub unread_obeyed : (c d : Command) (left : Option (List ℕ)) (count : ℕ) (o e : Stream) (s : Status)
     → c ≡ d → IsInputRead d (untouched left count) [] → IsAnswer d s [] o e
     → IsCommandAnswer c s (untouched left count) o e

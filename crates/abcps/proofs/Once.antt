@@ -1,4 +1,5 @@
--- A command calls for one answer on an input, however many jobs set its book; and for none on an input that it refuses.
+-- A command calls for one answer to an input, however many jobs set its book, and for none to an input that it
+-- refuses.
 use Rattle.std.proofs.Common.{◌≡◌, ◌∙◌, refl, sym, ap, subst, ℕ, List, [], ◌∷◌, Bool, arith}
 use Rattle.abc_lines.specs.Books.{book_of}
 use Rattle.abc_fields.specs.declared.paper.Paper.{Paper}
@@ -39,7 +40,7 @@ use Rattle.set_tune.specs.Terms.{Manner, manner_by, unmoved}
 abbrev called_of : List ℕ → List ℕ → Status → Called
 called_of page told status = record { page = page; told = told; status = status }
 
--- what is called for is its parts
+-- what is called for, in parts
 same_called : (c d : Called) → c.page ≡ d.page → c.told ≡ d.told → c.status ≡ d.status → c ≡ d
 same_called c d page told status =
     let made : called_of c.page c.told c.status ≡ called_of d.page d.told d.status = cc in made
@@ -52,7 +53,7 @@ one_set : HaveOneOutcome
     → (manner : Manner) (text : List ℕ) (os ps : List Outcome) → AreSet manner text os → AreSet manner text ps → os ≡ ps
 one_set one manner text os ps a b = one.outcomes (terms_in manner text) (book_of text).tunes os ps a b
 
--- what one outcome and one plan give is one
+-- one outcome and one plan determine one answer
 by_plan : {A : Type 0} (make : PagePlan → List Outcome → A) (even : Bool) (paper : Paper) (os ps : List Outcome)
     (plan other : PagePlan)
     → os ≡ ps → IsPagePlan even paper os plan → IsPagePlan even paper ps other → make plan os ≡ make other ps
@@ -174,18 +175,18 @@ called_once one alone (Command.Trial tunes flow jobs even) text called other a b
 called_once one alone Command.Paint text called other a b = painted_once alone text called other a b
 called_once one alone (Command.Hear spread) text called other a b = sheet_once (heard_text spread) text called other a b
 
--- what is called for doesn't hang on jobs
+-- what is called for does not depend on jobs
 by_one : (c : Command) (text : List ℕ) (called : Called) → Calls c text called → Calls (by_one_job c) text called
 by_one (Command.Set flow jobs by even) text called a = a
 by_one c text called a = a
 
--- commands that differ in nothing but jobs call for one answer
+-- commands that differ only in their jobs call for one answer
 pub calls_one : HaveOneOutcome → HasOneAnswer → CallsOne
 calls_one one alone c d text called other same a b =
     called_once one alone (by_one_job c) text other called
     (subst (λ x. Calls x text other) same (by_one d text other b)) (by_one c text called a)
 
--- an input that is refused calls for nothing
+-- a refused input calls for nothing
 pub never_both : HasOneAnswer → NeverBoth
 never_both alone Command.Inspect text called (Refusal.NotPages line) calls refuses =
     refuses.unspelled calls.sheet calls.read.spells

@@ -1,4 +1,4 @@
--- The promises of a run, from its answer by cases.
+-- The promises of a run, by cases on its status.
 use Rattle.std.proofs.Common.{◌≡◌, refl, sym, ◌∙◌, ap, subst, ◌⊎◌, inl, inr, ℕ, ◌≤◌, List, ◌++◌, length, length-append}
 use Rattle.std.proofs.Common.{append-nil, Option, Some, None, arith}
 use Rattle.std.specs.Io.KnownBytes.{Consumes, IsAtEnd}
@@ -12,7 +12,7 @@ use Rattle.abcps.specs.Outcome.{FailedToWrite, HoldsPart, Stream, IsCommandAnswe
 use Rattle.abcps.specs.Outcome.{IsRunAnswer, ReadAll, ReadTooMuch, WroteWhole, WriteFailed, RefusedInput}
 use Rattle.abcps.specs.Promises.{IsDone, IsRunOn, IsRefused, IsReportedOn, AsksWholeText, NoFault, Promises}
 
--- a source that told its bytes was read to its end: they are the text
+-- a source whose bytes are known was read to its end: they are the text
 whole_read : (before after : Option (List ℕ)) (told text : List ℕ)
     → before ≡ Some told → Consumes before after text → IsAtEnd after → text ≡ told
 whole_read None after told text e taken end = cc
@@ -20,7 +20,7 @@ whole_read (Some xs) None told text e taken end = absurd taken
 whole_read (Some xs) (Some ys) told text e taken end =
     let all : xs ≡ told = cc in sym (sym all ∙ taken ∙ ap (λ zs. text ++ zs) end ∙ append-nil text)
 
--- what was taken is no longer than what there was
+-- what was read is no longer than what there was
 taken_short : (before after : Option (List ℕ)) (told text : List ℕ)
     → before ≡ Some told → Consumes before after text → length text ≤ length told
 taken_short None after told text e taken = cc
@@ -36,7 +36,7 @@ module _ (alone : CallsOne) (either : NeverBoth) (words : List (List ℕ)) (i o 
   usage_by Status.Usage run not = refl
   usage_by s run not = absurd (not (run.0, run.1))
 
-  -- what is answered where both texts are written
+  -- the answer when both texts are written
   done_with : (c : Command) (text : List ℕ) (s : Status)
       → (called : Called) → Calls c text called → s ≡ called.status → WroteWhole o called.page
       → WroteWhole e called.told
@@ -78,7 +78,7 @@ module _ (alone : CallsOne) (either : NeverBoth) (words : List (List ℕ)) (i o 
       → IsQuiet e × (IsQuiet o ⊎ ((c : Command) × (text : List ℕ) × AsksWholeText c words i text × HoldsPart c text o))
   memory_by run = (run.2.0, memory_part run.0 run.1 run.2.1)
 
-  -- the text that a command read is the one that the input told
+  -- the text that a command read is that of the input
   told_all : (most : ℕ) (told text : List ℕ) → i.before ≡ Some told → ReadAll most i text → text ≡ told
   told_all most told text is read = whole_read i.before i.after told text is read.taken read.whole
 
@@ -104,7 +104,7 @@ module _ (alone : CallsOne) (either : NeverBoth) (words : List (List ℕ)) (i o 
   read_told c told text reads is read =
       told_all (limit_of c) told text (told_reader c told reads is).0 (read_reader c text reads read)
 
-  -- a command that reads nothing calls for the same of any text
+  -- a command that reads nothing calls for the same with any text
   unread_calls : (c : Command) (told text : List ℕ) (called : Called)
       → (ReadsInput c → ⊥) → Calls c text called → Calls c told called
   unread_calls (Command.Make tunes) told text called not calls = calls
@@ -119,7 +119,7 @@ module _ (alone : CallsOne) (either : NeverBoth) (words : List (List ℕ)) (i o 
       by_reading (inl reads) = subst (λ t. Calls c t called) (read_told c told text reads is read) calls
       by_reading (inr not) = unread_calls c told text called not calls
 
-  -- what was called for was done, for the text that the input told
+  -- what was called for was done, for the text of the input
   done_told : (c : Command) (told : List ℕ) (s : Status)
       → IsReportedOn c i told → (text : List ℕ) → IsInputRead c i text
       → (called : Called) → Calls c text called → s ≡ called.status → WroteWhole o called.page
@@ -201,7 +201,7 @@ module _ (alone : CallsOne) (either : NeverBoth) (words : List (List ℕ)) (i o 
       inr (refused_told c told Status.Halted is text read r)
   obeyed_as c s (text, read, r) told good is ample listed = inl (done_told c told s is text read r.0 r.1 r.2 r.3 r.4)
 
-  -- what this command answered, where the words ask for it
+  -- the answer of this command, when the words ask for it
   obeyed : AsksOne → (d : Command) (s : Status) → IsRunAnswer s words i o e → Asks words d
       → (s ≡ Status.Usage → ⊥) × IsCommandAnswer d s i o e
   obeyed one d Status.Usage run asked = absurd (run.0 (d, asked))

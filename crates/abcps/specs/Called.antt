@@ -1,5 +1,4 @@
--- What is called for: the text that is written on output, the text that is told on errors,
--- and the status when both are written.
+-- What is called for: the text for output, the text for errors, and the status when both are written.
 use Rattle.std.specs.Prelude.{◌≡◌, ℕ, List, []}
 use Rattle.abcps.specs.declared.status.Status.{Status}
 
@@ -8,7 +7,7 @@ pub record Called : Type 0 where
   pub told : List ℕ
   pub status : Status
 
--- nothing on errors, and all is done
+-- nothing on errors, and everything is done
 pub record IsQuietly (c : Called) : Type 0 where
   pub told : c.told ≡ []
   pub status : c.status ≡ Status.Done

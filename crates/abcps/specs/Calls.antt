@@ -1,4 +1,4 @@
--- What each command calls for, of an input that it doesn't refuse.
+-- What each command calls for, given an input that it does not refuse.
 use Rattle.std.specs.Prelude.{◌≡◌, ℕ, ◌*◌, List, [], Bool, true, false, if◌then◌else◌, length, flat_map}
 use Rattle.std.specs.List.{list_any}
 use Rattle.gen_book.specs.Book.{book}
@@ -22,15 +22,15 @@ use Rattle.abcps.specs.Books.{CallsPages, CallsSystems, Tries}
 use Rattle.abcps.specs.declared.refusing.Refusal.{Refusal}
 use Rattle.abcps.specs.declared.status.Status.{Status}
 
--- Of `inspect` and `hear`: a report on the one sheet that spells the input, which is all that it shows,
--- or what its tunes sound.
+-- For `inspect` and `hear`: a report on the one sheet that spells the input: everything that it shows, or what its
+-- tunes sound.
 pub record Shows (report : Sheet → List ℕ) (text : List ℕ) (c : Called) : Type 0 where
   pub sheet : Sheet
   pub read : IsDocumentRead text sheet
   pub page : c.page ≡ report sheet
   pub quietly : IsQuietly c
 
--- Of `check`: the verdict on each tune of the listing, and whether each choice is least.
+-- For `check`: the verdict on each tune of the listing, and whether each choice is least.
 abbrev pub is_dearer : Verdict → Bool
 is_dearer (Verdict.Least total) = false
 is_dearer (Verdict.NotLeast total better breaks) = true
@@ -51,12 +51,12 @@ pub record Judges (text : List ℕ) (c : Called) : Type 0 where
   pub told : c.told ≡ []
   pub status : c.status ≡ status_by judged
 
--- Of `make`: the generated book.
+-- For `make`: the generated book.
 pub record Makes (tunes : ℕ) (c : Called) : Type 0 where
   pub page : c.page ≡ book tunes
   pub quietly : IsQuietly c
 
--- Of `paint`: what the machine paints of the input, where it may execute 100 tokens for each byte.
+-- For `paint`: what the machine paints of the input, with a budget of 100 tokens per byte.
 abbrev pub budget_of : List ℕ → ℕ
 budget_of text = 100 * length text
 
@@ -76,20 +76,20 @@ Calls (Command.Trial tunes flow jobs even) text c = Tries tunes (unmoved flow) e
 Calls Command.Paint text c = IsPainted text c
 Calls (Command.Hear spread) text c = Shows (heard_text spread) text c
 
--- the same command with one job, where it takes a number of jobs
+-- the same command with one job, if it takes a number of jobs
 abbrev pub by_one_job : Command → Command
 by_one_job (Command.Set flow jobs by even) = Command.Set flow 1 by even
 by_one_job (Command.Trial tunes flow jobs even) = Command.Trial tunes flow 1 even
 by_one_job c = c
 
--- What commands that differ in nothing but jobs call for of an input is one.
+-- Commands that differ only in their jobs call for the same answer to an input.
 abbrev pub CallsOne : Type 0
 CallsOne =
     (c d : Command) (text : List ℕ) (called other : Called)
     → by_one_job d ≡ by_one_job c → Calls c text called → Calls d text other → other ≡ called
 
--- Which inputs are refused: `inspect` and `hear` refuse what no sheet spells, and `check` what is no listing, each by
--- the number of its first line that isn't good; and `paint` refuses what the machine halts on.
+-- Which inputs are refused. `inspect` and `hear` refuse what no sheet spells, and `check` what is not a listing, each
+-- with the number of the first bad line; `paint` refuses what the machine halts on.
 pub record IsNoDocument (text : List ℕ) (number : ℕ) : Type 0 where
   pub first : IsFirstFault text number
   pub unspelled : (sheet : Sheet) → SpellsSheet sheet text → ⊥
@@ -105,7 +105,7 @@ Refuses Command.Check text (Refusal.NotPages line) = IsNoListing text line
 Refuses Command.Paint text (Refusal.Halted token cause) = Halts text (budget_of text) token cause
 Refuses _ text refusal = ⊥
 
--- An input that is refused calls for nothing.
+-- A refused input calls for nothing.
 abbrev pub NeverBoth : Type 0
 NeverBoth =
     (c : Command) (text : List ℕ) (called : Called) (refusal : Refusal)

@@ -1,4 +1,4 @@
--- What a run answers, and what it leaves on each stream: by cases on the answer.
+-- The answer of a run and what it leaves on each stream, by cases on the status.
 use Rattle.std.specs.Prelude.{◌≡◌, ◌⊎◌, ◌<◌, ◌≤◌, ℕ, ◌+◌, List, [], Bool, length, take, Option}
 use Rattle.std.specs.Io.KnownBytes.{Keeps, Appends, Consumes, IsAtEnd}
 use Rattle.eng_io.specs.Causes.{Rose}
@@ -25,23 +25,23 @@ pub record Stream : Type 0 where
   pub count_before : ℕ
   pub count_after : ℕ
 
--- what is observed of a source or a sink that tells its bytes and its faults so
+-- what is observed of a source or a sink with these bytes and faults
 abbrev pub observed : {A : Type 0} → (A → Option (List ℕ)) → (A → ℕ) → A → A → Stream
 observed bytes faults old new =
     record { before = bytes old; after = bytes new; count_before = faults old; count_after = faults new }
 
--- nothing was taken or given, and no fault was counted
+-- nothing was read or written, and no fault was counted
 abbrev pub IsQuiet : Stream → Type 0
 IsQuiet s = Keeps s.before s.after × (s.count_after ≡ s.count_before)
 
--- the text was all that a source had left, it is within the limit, and no fault was counted
+-- the text is all that a source had left and is within the limit, and no fault was counted
 pub record ReadAll (most : ℕ) (s : Stream) (text : List ℕ) : Type 0 where
   pub taken : Consumes s.before s.after text
   pub whole : IsAtEnd s.after
   pub within : length text ≤ most
   pub count : s.count_after ≡ s.count_before
 
--- one byte past the limit was taken
+-- one byte past the limit was read
 pub record ReadTooMuch (most : ℕ) (s : Stream) (text : List ℕ) : Type 0 where
   pub taken : Consumes s.before s.after text
   pub past : length text ≡ most + 1
@@ -51,19 +51,19 @@ pub record ReadTooMuch (most : ℕ) (s : Stream) (text : List ℕ) : Type 0 wher
 abbrev pub WroteWhole : Stream → List ℕ → Type 0
 WroteWhole s text = Appends s.before s.after text × (s.count_after ≡ s.count_before)
 
--- a sink failed, and took a front of a text
+-- a sink failed after a prefix of a text
 abbrev pub FailedAfterPrefix : Stream → List ℕ → Type 0
 FailedAfterPrefix s text = (n : ℕ) × Appends s.before s.after (take n text) × Rose s.count_before s.count_after
 
--- a sink took a front of a text, and counted no fault
+-- a sink took a prefix of a text, and counted no fault
 abbrev pub TookPrefix : Stream → List ℕ → Type 0
 TookPrefix s text = (n : ℕ) × Appends s.before s.after (take n text) × (s.count_after ≡ s.count_before)
 
--- what a sink took is a front of a text, whatever it counted
+-- a sink took a prefix of a text, whatever it counted
 abbrev pub HoldsPrefix : Stream → List ℕ → Type 0
 HoldsPrefix s text = (n : ℕ) × Appends s.before s.after (take n text)
 
--- a line was given to a sink, which took it all or counted a fault and took a front of it
+-- a line was written to a sink, which took all of it, or counted a fault and took a prefix
 abbrev pub ReportsLine : Stream → List ℕ → Type 0
 ReportsLine s line = WroteWhole s line ⊎ FailedAfterPrefix s line
 
@@ -72,9 +72,9 @@ abbrev pub WriteFailed : Called → Stream → Stream → Type 0
 WriteFailed called o e =
     (FailedAfterPrefix o called.page × IsQuiet e) ⊎ (WroteWhole o called.page × FailedAfterPrefix e called.told)
 
--- `set` ended while some tunes of its book were left. Each tune has an outcome all the same, and what output took is a
--- front of the document of all of them, and of the document of the first of them, fewer than all, by the same plan; so
--- it is one of whatever is called for of the book.
+-- `set` ended while some tunes of its book were left. Each tune has an outcome all the same. What output took is a
+-- prefix of the document of all of them, and of the document of the first of them, fewer than all, by the same plan;
+-- so it is a prefix of whatever is called for of the book.
 pub record SetStoppedEarly (manner : Manner) (even : Bool) (text : List ℕ) (o : Stream) : Type 0 where
   pub count : ℕ
   pub left : count < length (book_of text).tunes
@@ -90,20 +90,20 @@ abbrev pub StoppedEarly : Command → List ℕ → Stream → Type 0
 StoppedEarly (Command.Set flow jobs by even) text o = SetStoppedEarly (manner_by flow by) even text o
 StoppedEarly _ text o = ⊥
 
--- A sink failed while what is called for was written, or output did before `set` had set all tunes.
+-- A sink failed while writing what is called for, or output failed before `set` had set all tunes.
 abbrev pub FailedToWrite : Command → List ℕ → Stream → Stream → Type 0
 FailedToWrite c text o e =
     ((called : Called) × Calls c text called × WriteFailed called o e)
     ⊎ (StoppedEarly c text o × Rose o.count_before o.count_after × IsQuiet e)
 
--- Output has a front of what is called for, or of what `set` writes before it has set all tunes;
--- and no fault was counted.
+-- Output has a prefix of what is called for, or of what `set` writes before it has set all tunes; and no fault was
+-- counted.
 abbrev pub HoldsPart : Command → List ℕ → Stream → Type 0
 HoldsPart c text o =
     ((called : Called) × Calls c text called × TookPrefix o called.page)
     ⊎ (StoppedEarly c text o × (o.count_after ≡ o.count_before))
 
--- What a command read: of an input all, and those that make a book themselves nothing.
+-- What a command read: the whole input; commands that generate a book read nothing.
 abbrev pub IsInputRead : Command → Stream → List ℕ → Type 0
 IsInputRead (Command.Make tunes) i text = IsQuiet i × (text ≡ [])
 IsInputRead (Command.Trial tunes flow jobs even) i text = IsQuiet i × (text ≡ [])
@@ -115,19 +115,19 @@ ReadsInput (Command.Make tunes) = ⊥
 ReadsInput (Command.Trial tunes flow jobs even) = ⊥
 ReadsInput c = Unit {0}
 
--- a status with which all was written
+-- a status with which everything was written
 abbrev pub IsCompleteStatus : Status → Type 0
 IsCompleteStatus Status.Done = Unit {0}
 IsCompleteStatus Status.SomeRefused = Unit {0}
 IsCompleteStatus Status.NotLeast = Unit {0}
 IsCompleteStatus _ = ⊥
 
--- both texts were written, and the answer is the one that goes with them
+-- both texts were written, and the status is the one that goes with them
 abbrev pub WroteBoth : (Called → Type 0) → Status → Stream → Stream → Type 0
 WroteBoth C s o e =
     (called : Called) × C called × (s ≡ called.status) × WroteWhole o called.page × WroteWhole e called.told
 
--- what is answered where something is called for
+-- the answer when something is called for
 abbrev pub IsAnswered : (Called → Type 0) → Status → Stream → Stream → Type 0
 IsAnswered C Status.Done o e = WroteBoth C Status.Done o e
 IsAnswered C Status.SomeRefused o e = WroteBoth C Status.SomeRefused o e
@@ -136,7 +136,7 @@ IsAnswered C Status.WriteFault o e = (called : Called) × C called × WriteFaile
 IsAnswered C Status.Memory o e = IsQuiet e × (IsQuiet o ⊎ ((called : Called) × C called × TookPrefix o called.page))
 IsAnswered C _ o e = ⊥
 
--- the input was refused: output has nothing, and errors was told why
+-- the input was refused: output has nothing, and the reason was reported on errors
 abbrev pub RefusedInput : Command → Status → List ℕ → Stream → Stream → Type 0
 RefusedInput c s text o e =
     (refusal : Refusal)
@@ -145,7 +145,7 @@ RefusedInput c s text o e =
     × IsQuiet o
     × ReportsLine e (refusal_line refusal)
 
--- what is answered once the input was read
+-- the answer once the input was read
 abbrev pub IsAnswer : Command → Status → List ℕ → Stream → Stream → Type 0
 IsAnswer c Status.NotPages text o e = RefusedInput c Status.NotPages text o e
 IsAnswer c Status.Halted text o e = RefusedInput c Status.Halted text o e
@@ -153,7 +153,7 @@ IsAnswer c Status.WriteFault text o e = FailedToWrite c text o e
 IsAnswer c Status.Memory text o e = IsQuiet e × (IsQuiet o ⊎ HoldsPart c text o)
 IsAnswer c s text o e = IsAnswered (Calls c text) s o e
 
--- what a command answers
+-- the answer of a command
 abbrev pub IsCommandAnswer : Command → Status → Stream → Stream → Stream → Type 0
 IsCommandAnswer c Status.ReadFault i o e = ReadsInput c × Rose i.count_before i.count_after × IsQuiet o × IsQuiet e
 IsCommandAnswer c Status.TooLong i o e =
@@ -162,7 +162,7 @@ IsCommandAnswer c Status.Memory i o e =
     IsQuiet e × (IsQuiet o ⊎ ((text : List ℕ) × IsInputRead c i text × HoldsPart c text o))
 IsCommandAnswer c s i o e = (text : List ℕ) × IsInputRead c i text × IsAnswer c s text o e
 
--- what a run answers
+-- the answer of a run
 abbrev pub IsRunAnswer : Status → List (List ℕ) → Stream → Stream → Stream → Type 0
 IsRunAnswer Status.Usage words i o e = (IsListed words → ⊥) × IsQuiet i × IsQuiet o × ReportsLine e usage_line
 IsRunAnswer s words i o e = (c : Command) × Asks words c × IsCommandAnswer c s i o e

@@ -1,4 +1,4 @@
--- A book as it is set, pressed and written, a batch of its tunes after another.
+-- A book as it is set, built and written, one batch of its tunes after another.
 use Rattle.std.specs.Prelude.{◌≡◌, ◌⊎◌, ℕ, List, [], ◌++◌, All, Bool, true, false, if◌then◌else◌, flat_map, Result, Ok}
 use Rattle.std.specs.Prelude.{Err}
 use Rattle.std.specs.List.{AllZip}
@@ -33,18 +33,18 @@ use Rattle.abcps.specs.declared.status.Status.{Status}
 abbrev pub status_if : Bool → Status
 status_if refused = if refused then Status.SomeRefused else Status.Done
 
--- what a sink took of a text where this answer came before the text's end: a front, and a fault was counted or none
+-- with this status, a sink took a prefix of the text; whether it counted a fault follows from the status
 abbrev pub StoppedAfterPrefix : Status → Stream → List ℕ → Type 0
 StoppedAfterPrefix Status.WriteFault s text = FailedAfterPrefix s text
 StoppedAfterPrefix Status.Memory s text = TookPrefix s text
 StoppedAfterPrefix _ s text = ⊥
 
--- a sink took a whole text, or was stopped
+-- a sink took a whole text, or stopped early
 abbrev pub WroteOrStopped : {T : Type 0} → Stream → List ℕ → Result T Status → Type 0
 WroteOrStopped s text (Ok x) = WroteWhole s text
 WroteOrStopped s text (Err why) = StoppedAfterPrefix why s text
 
--- these outcomes were taken: where their blocks stand is known, and their faults are told
+-- these outcomes were taken: where their blocks are is known, and their faults are reported
 pub record IsRunning (plan : PagePlan) (paper : Paper) (outcomes : List Outcome) (r : BookProgress) : Type 0 where
   pub pressed : IsBuiltFrom plan paper outcomes r.press
   pub free : CanGoOn r.press
@@ -52,11 +52,11 @@ pub record IsRunning (plan : PagePlan) (paper : Paper) (outcomes : List Outcome)
   pub refused : r.refused ≡ some_fault outcomes
   pub uncounted : r.writer.pages ≡ 0
 
--- no outcome was taken yet
+-- no outcomes were taken yet
 abbrev pub IsBegun : BookProgress → Type 0
 IsBegun r = (plan : PagePlan) (paper : Paper) → RisesBy plan → IsRunning plan paper [] r
 
--- outcomes can be pressed behind those that were taken
+-- outcomes can be added after those that were taken
 pub record CanAdd (plan : PagePlan) (paper : Paper) (outcomes : List Outcome) (r : BookProgress) : Type 0 where
   pub good : IsGoodPaper paper
   pub set : All (IsSetUnder paper) outcomes
@@ -68,29 +68,29 @@ pub record CanAdd (plan : PagePlan) (paper : Paper) (outcomes : List Outcome) (r
 abbrev pub text_so_far : PagePlan → Paper → List Outcome → List ℕ
 text_so_far plan paper outcomes = prolog (paper_frame paper) ++ begun_text plan paper outcomes
 
--- outcomes were pressed behind others, and a stream has some of the text that they add
+-- outcomes were added after others, and a stream has some of the text that they add
 pub record HaveAdded (plan : PagePlan) (paper : Paper) (before outcomes : List Outcome) (press : PageBuilder)
     (Took : List ℕ → Type 0) : Type 0 where
   pub text : List ℕ
   pub pressed : AddsOutcomes plan paper before outcomes text press
   pub took : Took text
 
--- with the texts of these placed outcomes, they run after those that were taken
+-- with the texts of these placed outcomes, they follow those that were taken
 abbrev pub WillRun : PagePlan → Paper → List Outcome → List Outcome → List PlacedOutcome → BookProgress → Type 0
 WillRun plan paper before outcomes placed r =
     (texts : List (List ℕ)) → AllZip (IsTextOfOutcome (body_width paper)) placed texts
     → AddsOutcomes plan paper before outcomes (flat_map (λ text. text) texts) r.press
     × IsRunning plan paper (before ++ outcomes) r
 
--- the same but for what the writer has written
+-- the same except for what the writer has written
 pub record IsSameProgress (r next : BookProgress) : Type 0 where
   pub press : next.press ≡ r.press
   pub told : next.told ≡ r.told
   pub refused : next.refused ≡ r.refused
   pub uncounted : next.writer.pages ≡ 0
 
--- outcomes were pressed and written behind those that were taken, or not to their end: memory may have run out before
--- any went out
+-- outcomes were added and written after those that were taken, or only in part: memory may have run out before
+-- anything was written
 abbrev pub IsBuiltOrStopped : PagePlan
     → Paper → List Outcome → List Outcome → Stream → Result BookProgress Status → Type 0
 IsBuiltOrStopped plan paper before outcomes o (Ok r) =
@@ -99,7 +99,8 @@ IsBuiltOrStopped plan paper before outcomes o (Err why) =
     (StoppedAfterPrefix why o [])
     ⊎ ((press : PageBuilder) × HaveAdded plan paper before outcomes press (StoppedAfterPrefix why o))
 
--- outcomes were written after those that were taken, and the next tunes were set; or they were not written to their end
+-- outcomes were written after those that were taken, and the next tunes were set; or the outcomes were written only
+-- in part
 abbrev pub IsTurn : Terms → PagePlan
     → List Outcome → List Outcome → List TuneText → Stream → Result NextOutcomes Status → Type 0
 IsTurn terms plan before outcomes next o (Ok t) =
@@ -119,7 +120,7 @@ IsPlanned false terms tunes plan = plan ≡ PagePlan.Filled
 IsPlanned true terms tunes plan =
     (all : List Outcome) × AreOutcomes terms tunes all × IsPagePlan true terms.paper all plan
 
--- all that is left of the document of these outcomes was written behind their pages
+-- everything that is left of the document of these outcomes was written after their pages
 abbrev pub rest_text : ℕ → List ℕ
 rest_text begun = ending begun ++ trailer begun
 
@@ -152,14 +153,14 @@ abbrev pub AreTunesWritten : Terms → PagePlan → List TuneText → Stream →
 AreTunesWritten terms plan tunes o (Ok r) = AreRunning terms plan tunes o r
 AreTunesWritten terms plan tunes o (Err why) = AreCutOff terms plan tunes o why
 
--- how a sink counted where this answer came before a text's end
+-- how a sink counted when this status came before the end of a text
 abbrev pub CountsAs : Status → Stream → Type 0
 CountsAs Status.WriteFault s = Rose s.count_before s.count_after
 CountsAs Status.Memory s = s.count_after ≡ s.count_before
 CountsAs _ s = ⊥
 
--- why the document of a book was not written to its end: memory ran out before it was begun, or all tunes were set, or
--- some were left
+-- why the document of a book was not written to its end: memory ran out before it was begun, or it stopped when all
+-- tunes were set, or while some were left
 pub data IsUnwritten (manner : Manner) (even : Bool) (text : List ℕ) (o : Stream) (why : Status) : Type 0 where
   unbegun : why ≡ Status.Memory → IsQuiet o → IsUnwritten manner even text o why
   all_set : (called : Called)

@@ -1,4 +1,4 @@
--- What a run promises, one fact for each name.
+-- The promises of a run, one fact per name.
 use Rattle.std.specs.Prelude.{◌≡◌, ◌≢◌, ◌⊎◌, ◌≤◌, ◌↔◌, List, ℕ, length, Some}
 use Rattle.eng_io.specs.Causes.{Rose}
 use Rattle.abcps_words.specs.Command.{Asks, IsListed, limit_of}
@@ -12,13 +12,13 @@ use Rattle.abcps.specs.Refusals.{IsRefusalStatus, refusal_line, refusal_status}
 use Rattle.abcps.specs.declared.refusing.Refusal.{Refusal}
 use Rattle.abcps.specs.declared.status.Status.{Status}
 
--- no stream counted a fault, where a count that stands at its end counts as risen
+-- no stream counted a fault; a count at its end counts as risen
 pub record NoFault (i o e : Stream) : Type 0 where
   pub input : Rose i.count_before i.count_after → ⊥
   pub output : Rose o.count_before o.count_after → ⊥
   pub errors : Rose e.count_before e.count_after → ⊥
 
--- the input told its bytes, which are within the limit; of a command that reads none nothing is asked
+-- the input has these bytes, which are within the limit; for a command that reads nothing there is no condition
 abbrev pub IsReportedOn : Command → Stream → List ℕ → Type 0
 IsReportedOn (Command.Make tunes) i text = Unit {0}
 IsReportedOn (Command.Trial tunes flow jobs even) i text = Unit {0}
@@ -30,13 +30,13 @@ pub record IsRunOn (c : Command) (words : List (List ℕ)) (i o e : Stream) (tex
   pub good : NoFault i o e
   pub told : IsReportedOn c i text
 
--- the words ask for a command, which read this text whole, or reads none
+-- the words ask for a command, which read this whole text, or reads none
 pub record AsksWholeText (c : Command) (words : List (List ℕ)) (i : Stream) (text : List ℕ) : Type 0 where
   pub asked : Asks words c
   pub read : IsInputRead c i text
 
--- What was called for is on both sinks, and it is the one thing that is called for of this input, by any number of
--- jobs: so the bytes and the answer are the same for every number of them. The input is one that isn't refused.
+-- What was called for is on both sinks, and it is the only thing that this input calls for, with any number of jobs:
+-- so the bytes and the status are the same for every number of jobs. The input is not refused.
 pub record IsDone (c : Command) (s : Status) (text : List ℕ) (o e : Stream) : Type 0 where
   pub called : Called
   pub calls : Calls c text called
@@ -46,8 +46,8 @@ pub record IsDone (c : Command) (s : Status) (text : List ℕ) (o e : Stream) : 
   pub page : WroteWhole o called.page
   pub told : WroteWhole e called.told
 
--- The input is refused: nothing is called for, the answer is the refusal's, output has nothing,
--- and errors was told the refusal's line.
+-- The input is refused: nothing is called for, the status is the refusal's, output has nothing, and the refusal's
+-- line was reported on errors.
 pub record IsRefused (c : Command) (s : Status) (text : List ℕ) (o e : Stream) : Type 0 where
   pub refusal : Refusal
   pub refuses : Refuses c text refusal
@@ -57,36 +57,36 @@ pub record IsRefused (c : Command) (s : Status) (text : List ℕ) (o e : Stream)
   pub told : ReportsLine e (refusal_line refusal)
 
 pub record Promises (s : Status) (words : List (List ℕ)) (i o e : Stream) : Type 0 where
-  -- usage is answered exactly by the words, whatever the streams do
+  -- the status is usage exactly when the words say so, whatever the streams do
   pub usage : (s ≡ Status.Usage) ↔ (IsListed words → ⊥)
-  -- then nothing was read or written but the line of usage, or a front of it where the errors sink failed
+  -- then nothing was read or written except the usage line, or a prefix of it if the errors sink failed
   pub usage_line : s ≡ Status.Usage → IsQuiet i × IsQuiet o × ReportsLine e usage_line
-  -- a fault of the input is answered only where a command reads and its count rose, and nothing is written
+  -- the status is a fault of the input only if a command reads and the input's count rose, and nothing is written
   pub read_fault : s ≡ Status.ReadFault
       → ((c : Command) × Asks words c × ReadsInput c) × Rose i.count_before i.count_after × IsQuiet o × IsQuiet e
-  -- an input is too long where one byte past the command's limit was taken, and nothing is written
+  -- an input is too long if one byte past the command's limit was read, and nothing is written
   pub too_long : s ≡ Status.TooLong
       → ((c : Command) × Asks words c × ReadsInput c × ((text : List ℕ) × ReadTooMuch (limit_of c) i text))
       × IsQuiet o
       × IsQuiet e
-  -- an input that is no document, or no listing, is told so by the line of its first fault, and one that can't be
-  -- painted by the token at which its run halts and the cause; nothing is written to output
+  -- an input that is not a document, or not a listing, is reported with the line of its first fault; one that can't
+  -- be painted with the token at which its run halts and the cause; nothing is written to output
   pub refused : IsRefusalStatus s
       → (c : Command) × (text : List ℕ) × AsksWholeText c words i text × IsRefused c s text o e
-  -- a fault of a sink is answered only where its count rose: output has a front of its text and errors nothing, or
-  -- output has all of it and errors a front of its own; where `set` had tunes left, output has a front of the document
+  -- the status is a fault of a sink only if its count rose: output has a prefix of its text and errors nothing, or
+  -- output has all of it and errors a prefix of its own; if `set` had tunes left, output has a prefix of the document
   -- of its whole book
   pub write_fault : s ≡ Status.WriteFault
       → (c : Command) × (text : List ℕ) × AsksWholeText c words i text × FailedToWrite c text o e
-  -- for want of memory errors has nothing, and output nothing or a front of its text, or of the document of a whole
-  -- book of which `set` had tunes left
+  -- if memory ran out, errors has nothing, and output has nothing or a prefix of its text, or of the document of a
+  -- whole book of which `set` had tunes left
   pub memory : s ≡ Status.Memory
       → IsQuiet e × (IsQuiet o ⊎ ((c : Command) × (text : List ℕ) × AsksWholeText c words i text × HoldsPart c text o))
-  -- every other answer is the one that is called for, and both sinks have their whole texts
+  -- every other status is the one that is called for, and both sinks have their whole texts
   pub done : s ≢ Status.Usage
       → s ≢ Status.ReadFault → s ≢ Status.TooLong → (IsRefusalStatus s → ⊥) → s ≢ Status.WriteFault → s ≢ Status.Memory
       → (c : Command) × (text : List ℕ) × AsksWholeText c words i text × IsDone c s text o e
-  -- Where the words ask for a command, no fault is counted and the input is told within the limit: unless memory runs
-  -- out, all that the command calls for is done, or its input is refused.
+  -- If the words ask for a command, no fault is counted and the input is known to be within the limit, then unless
+  -- memory runs out, everything that the command calls for is done, or its input is refused.
   pub answered : (c : Command) (text : List ℕ)
       → IsRunOn c words i o e text → s ≢ Status.Memory → IsDone c s text o e ⊎ IsRefused c s text o e

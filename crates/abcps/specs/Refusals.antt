@@ -1,4 +1,4 @@
--- What is answered to an input that is refused: the status, and the line on errors.
+-- The answer to a refused input: the status, and the line on errors.
 use Rattle.std.specs.Prelude.{ℕ, List, [], ◌∷◌, ◌++◌, codes, decimal}
 use Rattle.ps_reports.specs.PaintText.{halt_line}
 use Rattle.abcps.specs.declared.refusing.Refusal.{Refusal}

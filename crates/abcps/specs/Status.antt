@@ -1,5 +1,5 @@
--- The numbers of the answers, with which the program exits, and the answer to a document that was not written to its
--- end.
+-- The numbers of the statuses, with which the program exits, and the status for a document that was not written to
+-- its end.
 use Rattle.std.specs.Prelude.{ℕ}
 use Rattle.ps_write.specs.declared.steps.DocError.{DocError}
 use Rattle.abcps.specs.declared.status.Status.{Status}

@@ -1,12 +1,12 @@
--- What is answered where the words of a run couldn't be had: a word that isn't UTF-8 is in no listed form, so the usage
--- line is told; where memory ran out nothing is written.
+-- The status when the words of a run couldn't be obtained. A word that is not UTF-8 fits no listed form, so the usage
+-- line is reported; if memory ran out, nothing is written.
 use Rattle.std.specs.{Prelude.◌≡◌, declared.io.ErrorKind.ErrorKind}
 use Rattle.abcps_words.specs.Usage.{usage_line}
 use Rattle.abcps.specs.Outcome.{IsQuiet, Stream, ReportsLine}
 use Rattle.abcps.specs.declared.status.Status.{Status}
 use Rattle.abcps.specs.declared.wordless.WordsError.{WordsError}
 
--- the cause that an error of the system tells
+-- the cause that an error of the system reports
 abbrev pub cause_of : ErrorKind → WordsError
 cause_of ErrorKind.OutOfMemory = WordsError.Memory
 cause_of _ = WordsError.NotText

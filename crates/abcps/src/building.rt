@@ -20,8 +20,8 @@ use set_pages::{
 };
 use std::alloc::Global;
 
-/// What runs along while the tunes of a book are set and its pages are written: where its blocks stand so far, the
-/// reports of the faults so far, whether there was one, and the document.
+/// The state while the tunes of a book are set and its pages are written: where its blocks are so far, the reports of
+/// the faults so far, whether there was one, and the document.
 #[derive(Drop)]
 pub(crate) struct BookProgress {
     press: PageBuilder,
@@ -30,8 +30,8 @@ pub(crate) struct BookProgress {
     writer: DocWriter,
 }
 
-/// What is left to tell of a book whose document was written: how many pages it has, the reports of its faults, and the
-/// answer.
+/// What is left to report of a book whose document was written: its number of pages, the reports of its faults, and
+/// the status.
 #[derive(Drop)]
 pub(crate) struct WrittenBook {
     pub(crate) pages: u32,
@@ -39,7 +39,7 @@ pub(crate) struct WrittenBook {
     pub(crate) status: Status,
 }
 
-/// The answer where a tune was refused, and where none was.
+/// Returns the status, by whether a tune was refused.
 pub(crate) fn status_if(refused: bool) -> Status
     ensures value { result ≡ status_if refused }
     ensures end { IsCompleteStatus result }
@@ -89,8 +89,8 @@ fn send_all<O: Sink>(
     Ok(writer)
 }
 
-/// Places the outcomes of some tunes after those before them, and adds their reports. The text of their pages is still
-/// to be made.
+/// Places the outcomes of some tunes after those before them, and adds their reports. The text of their pages is not
+/// made yet.
 pub(crate) fn place_outcomes(
     alloc: Global,
     paper: &Paper,
@@ -112,7 +112,7 @@ pub(crate) fn place_outcomes(
     Ok(placed)
 }
 
-/// Writes the texts of outcomes that were placed.
+/// Writes the texts of placed outcomes.
 pub(crate) fn write_texts<O: Sink>(
     texts: Row<Text>,
     run: BookProgress,
@@ -128,7 +128,7 @@ pub(crate) fn write_texts<O: Sink>(
     Ok(run)
 }
 
-/// Ends the last page, where one was begun, and the document.
+/// Ends the last page, if one was begun, and the document.
 pub(crate) fn finish_book<O: Sink>(
     alloc: Global,
     run: BookProgress,

@@ -13,7 +13,7 @@ use ps_read::{PagesError, put_heard, read_document};
 use ps_text::Sheet;
 use std::alloc::Global;
 
-/// The text of what a sheet sounds.
+/// Returns the text of what a sheet sounds.
 fn text_of(alloc: Global, spread: Spread, sheet: &Sheet) -> Result<Text, Memory>
     ensures { IfOk result (λ text. text ≡ heard_text spread sheet.now) }
 {
@@ -40,7 +40,7 @@ fn print<O: Sink, E: Sink>(
     write_both(output, errors, text.as_slice(), b"", Status::Done)
 }
 
-/// Prints what the tunes of pages sound, or tells where an input is no document.
+/// Prints what the tunes of pages sound, or reports where an input isn't a document.
 pub(crate) fn hear<O: Sink, E: Sink>(
     alloc: Global,
     spread: Spread,

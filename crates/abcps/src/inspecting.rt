@@ -25,7 +25,7 @@ fn print<O: Sink, E: Sink>(alloc: Global, sheet: &Sheet, output: &mut O, errors:
     write_both(output, errors, report.as_slice(), b"", Status::Done)
 }
 
-/// Prints all that pages show, or tells where an input is no document.
+/// Prints everything that pages show, or reports where an input isn't a document.
 pub(crate) fn inspect<O: Sink, E: Sink>(
     alloc: Global,
     text: &[u8],

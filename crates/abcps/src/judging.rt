@@ -11,7 +11,7 @@ use lay_cert::{CertError, Judged, Verdict, check_listing, put_verdict};
 use mus_units::{Memory, Text};
 use std::alloc::Global;
 
-/// Whether a verdict says that a choice isn't least.
+/// Returns whether a verdict says that a choice isn't least.
 fn is_dearer(judged: &Judged) -> bool
     ensures { result ≡ is_dearer_choice judged.now }
 {
@@ -21,14 +21,14 @@ fn is_dearer(judged: &Judged) -> bool
     }
 }
 
-/// Whether some choice isn't least.
+/// Returns whether some choice isn't least.
 fn some_dearer(judged: &[Judged]) -> bool
     ensures { result ≡ list_any is_dearer_choice judged.now }
 {
     judged.iter().any(is_dearer)
 }
 
-/// The answer to verdicts.
+/// Returns the status for some verdicts.
 fn status_by(judged: &[Judged]) -> Status
     ensures value { result ≡ status_by judged.now }
     ensures end { IsCompleteStatus result }
@@ -40,7 +40,7 @@ fn status_by(judged: &[Judged]) -> Status
     }
 }
 
-/// The verdicts, a line each.
+/// Returns the verdicts, one per line.
 fn verdicts_text(alloc: Global, judged: &[Judged]) -> Result<Text, Memory>
     ensures { IfOk result (λ text. text ≡ verdicts_text judged.now) }
 {
@@ -68,7 +68,7 @@ fn print<O: Sink, E: Sink>(
     write_both(output, errors, text.as_slice(), b"", status_by(judged))
 }
 
-/// Judges a listing, or tells where an input is none.
+/// Judges a listing, or reports where an input isn't one.
 pub(crate) fn check<O: Sink, E: Sink>(
     alloc: Global,
     text: &[u8],

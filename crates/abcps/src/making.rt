@@ -7,7 +7,7 @@ use eng_io::Sink;
 use gen_book::make;
 use std::alloc::Global;
 
-/// Writes the generated book of so many tunes.
+/// Writes the generated book of the given number of tunes.
 pub(crate) fn make_book<O: Sink, E: Sink>(
     alloc: Global,
     tunes: u32,

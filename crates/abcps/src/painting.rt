@@ -14,10 +14,10 @@ use ps_machine::{MachineError, PagePaint, run_machine};
 use ps_reports::put_pages;
 use std::alloc::Global;
 
-/// So many tokens may be executed for each byte of a text.
+/// The number of tokens that may be executed for each byte of a text.
 const TOKENS_PER_BYTE: u64 = 100;
 
-/// How many tokens of a text may be executed.
+/// Returns how many tokens of a text may be executed.
 fn budget_of(text: &[u8]) -> u64
     requires { length text.now ≤ 268435456 }
     ensures { result ≡ budget_of text.now }
@@ -25,7 +25,7 @@ fn budget_of(text: &[u8]) -> u64
     TOKENS_PER_BYTE * text.len() as u64
 }
 
-/// The text of what is painted.
+/// Returns the text of the painted pages.
 fn text_of(alloc: Global, pages: &[PagePaint]) -> Result<Text, Memory>
     ensures { IfOk result (λ text. text ≡ paint_text pages.now) }
 {
@@ -34,7 +34,7 @@ fn text_of(alloc: Global, pages: &[PagePaint]) -> Result<Text, Memory>
     Ok(text)
 }
 
-/// Prints what is painted.
+/// Prints the painted pages.
 fn print<O: Sink, E: Sink>(
     alloc: Global,
     pages: &[PagePaint],
@@ -50,7 +50,7 @@ fn print<O: Sink, E: Sink>(
     write_both(output, errors, text.as_slice(), b"", Status::Done)
 }
 
-/// Runs a text on the machine and prints the pages that it paints, or tells where it halts.
+/// Runs a text on the machine and prints the pages that it paints, or reports where it halts.
 pub(crate) fn paint<O: Sink, E: Sink>(
     alloc: Global,
     text: &[u8],

@@ -7,19 +7,19 @@ use mus_units::{Memory, Text};
 use ps_machine::Cause;
 use ps_reports::put_halt;
 
-/// Why an input is refused, for which nothing is written on output: it fixes the answer, and the line
-/// that is told on errors.
+/// Why an input is refused. Nothing is then written on output; the refusal determines the status and the line that is
+/// reported on errors.
 #[derive(Clone, Copy, PartialEq, Eq)]
 pub enum Refusal {
-    /// The input is no document, or no listing: its first line that isn't good, counted from 1, or
-    /// one past the last where the text ends early.
+    /// The input isn't a document, or isn't a listing: the number of its first bad line, counted from 1, or one past
+    /// the last line if the text ends early.
     NotPages { line: u64 },
-    /// The machine that paints the input halts: after so many tokens, and why.
+    /// The machine that paints the input halts: after how many tokens, and why.
     Halted { token: u64, cause: Cause },
 }
 
 impl Refusal {
-    /// The answer.
+    /// Returns the status.
     pub fn status(self) -> Status
         ensures { result ≡ refusal_status self }
     {
@@ -29,7 +29,7 @@ impl Refusal {
         }
     }
 
-    /// Adds the line that is told, with its line feed. At an error a part of it was added.
+    /// Adds the report line, with its line feed. On an error a part of it has been added.
     pub fn put_line(self, out: &mut Text) -> Result<(), Memory>
         ensures { OnOk result (out.new ≡ out.old ++ refusal_line self) }
     {
@@ -40,7 +40,7 @@ impl Refusal {
     }
 }
 
-/// Adds the line that tells where an input is no document, or no listing.
+/// Adds the line that reports where an input isn't a document, or isn't a listing.
 fn put_not_pages(out: &mut Text, line: u64) -> Result<(), Memory>
     ensures { OnOk result (out.new ≡ out.old ++ not_pages_line line) }
 {

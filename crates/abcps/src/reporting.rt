@@ -12,21 +12,21 @@ use eng_io::{Sink, write_all};
 use mus_units::{Memory, Text};
 use std::alloc::Global;
 
-/// Tells a sink a line; the status stands whatever it does.
+/// Writes a report line to a sink. A failure of the sink is ignored: the caller's status stands.
 pub(crate) fn report<E: Sink>(errors: &mut E, line: &[u8])
     ensures { ReportsLine (observed E.taken E.faults errors.old errors.new) line.now }
 {
     let _ = write_all(errors, line);
 }
 
-/// Tells a sink the usage line; the status stands whatever it does.
+/// Writes the usage line to a sink. A failure of the sink is ignored: the caller's status stands.
 pub(crate) fn report_usage<E: Sink>(errors: &mut E)
     ensures { ReportsLine (observed E.taken E.faults errors.old errors.new) usage_line }
 {
     report(errors, usage());
 }
 
-/// Tells errors the last text of a run, whose answer that is unless errors fails.
+/// Writes the last text of a run to errors. Returns the status of the run unless errors fails.
 pub(crate) fn report_last<E: Sink>(errors: &mut E, told: &[u8], with: Status) -> Status
     ensures { ((result ≡ with) × WroteWhole (observed E.taken E.faults errors.old errors.new) told.now)
         ⊎ ((result ≡ Status.WriteFault)
@@ -38,7 +38,7 @@ pub(crate) fn report_last<E: Sink>(errors: &mut E, told: &[u8], with: Status) ->
     }
 }
 
-/// Writes a text on output, and then tells errors another.
+/// Writes a text on output, then another on errors.
 #[tactic(auto, using(crate::proofs::Answered::answered_end))]
 pub(crate) fn write_both<O: Sink, E: Sink>(
     output: &mut O,
@@ -57,7 +57,7 @@ pub(crate) fn write_both<O: Sink, E: Sink>(
     }
 }
 
-/// The line of a refusal.
+/// Returns the line of a refusal.
 fn line_of(alloc: Global, refusal: Refusal) -> Result<Text, Memory>
     ensures { IfOk result (λ line. line ≡ refusal_line refusal) }
 {
@@ -66,7 +66,7 @@ fn line_of(alloc: Global, refusal: Refusal) -> Result<Text, Memory>
     Ok(line)
 }
 
-/// Tells why an input is refused; its answer stands whatever the sink does.
+/// Reports why an input is refused. A failure of the sink is ignored: the refusal's status stands.
 pub(crate) fn refuse<E: Sink>(alloc: Global, refusal: Refusal, errors: &mut E) -> Status
     ensures { ((result ≡ Status.Memory) × IsQuiet (observed E.taken E.faults errors.old errors.new))
         ⊎ ((result ≡ refusal_status refusal)

@@ -23,7 +23,7 @@ use set_tune::How;
 use std::alloc::Global;
 use std::thread::Threads;
 
-/// Does what a command that reads asks, with an input that was read.
+/// Does what a reading command asks, with input that was read.
 fn answer<R: Threads + Sync, O: Sink, E: Sink, G: Gate + Sync>(
     rt: &R,
     alloc: Global,
@@ -63,7 +63,7 @@ fn answer<R: Threads + Sync, O: Sink, E: Sink, G: Gate + Sync>(
     }
 }
 
-/// Reads the input of a command that reads, and does what it asks.
+/// Reads the input of a reading command, and does what the command asks.
 fn read_and_answer<R: Threads + Sync, S: Source, O: Sink, E: Sink, G: Gate + Sync>(
     rt: &R,
     alloc: Global,
@@ -115,7 +115,7 @@ fn obey<R: Threads + Sync, S: Source, O: Sink, E: Sink, G: Gate + Sync>(
     }
 }
 
-/// Does what the words say, by cases on the answer.
+/// Does what the words say, by cases on the status.
 fn run_words<R: Threads + Sync, S: Source, O: Sink, E: Sink, G: Gate + Sync>(
     rt: &R,
     alloc: Global,
@@ -135,9 +135,8 @@ fn run_words<R: Threads + Sync, S: Source, O: Sink, E: Sink, G: Gate + Sync>(
     obey(rt, alloc, command, input, output, errors, gate)
 }
 
-/// The law that what commands that differ in nothing but jobs call for of an input is one: a tune has
-/// one outcome, a sheet spells one text, a listing has one list of verdicts, and a text is painted in
-/// one way.
+/// The law that commands that differ only in their jobs call for the same answer to an input: a tune has one outcome,
+/// a sheet spells one text, a listing has one list of verdicts, and a text is painted in one way.
 pub fn calls_one()
     ensures { CallsOne }
 {
@@ -145,32 +144,31 @@ pub fn calls_one()
     one_answer();
 }
 
-/// The law that an input that is refused calls for nothing.
+/// The law that a refused input calls for nothing.
 pub fn never_both()
     ensures { NeverBoth }
 {
     one_answer();
 }
 
-/// Does what the words say. `set` reads a book of at most 8,388,608 bytes and writes its document;
-/// `systems` reads the same, and writes its systems, or the listing of its spans; `inspect` reads a
-/// document of at most 268,435,456 bytes and writes all that it shows; `check` reads a listing of as
-/// many, and writes the verdict on each of its tunes; `make` writes a generated book, and `trial` sets
-/// one and writes a line on it; `paint` reads any bytes, as many as a document may have, runs them on
-/// the machine, and writes what they paint; `hear` reads a document, and writes what its tunes sound.
+/// Does what the words say. `set` reads a book of at most 8,388,608 bytes and writes its document. `systems` reads
+/// the same, and writes its systems or the listing of its spans. `inspect` reads a document of at most 268,435,456
+/// bytes and writes everything that it shows. `check` reads a listing with the same limit, and writes the verdict on
+/// each of its tunes. `make` writes a generated book; `trial` sets one and writes a line on it. `paint` reads any
+/// bytes, with the limit of a document, runs them on the machine, and writes what they paint. `hear` reads a
+/// document, and writes what its tunes sound.
 ///
-/// `set` reads its book whole, and then writes the pages that a batch of its tunes fills before those behind it are
-/// set; it tells faults once the document is written. Where a write fails or memory runs out while
-/// tunes are left, what went out is a front of the whole book's document, since each tune has an
-/// outcome, set or not; and nothing is told.
+/// `set` reads its whole book, then writes the pages that one batch of tunes fills before it sets the next batch. It
+/// reports faults after the document is written. If a write fails or memory runs out while tunes are left, the bytes
+/// written are a prefix of the whole book's document, since each tune has an outcome, set or not; nothing is reported
+/// then.
 ///
-/// Faulty tunes of `set` and `systems` are told on `errors`, a line each. With `flow` no bar is
-/// forced, and a score is moved by `by` semitones before it is set; with `even` the groups of blocks
-/// are parted into pages so that no other parting that fits has a smaller total. `jobs` tunes are set
-/// side by side, where threads can be made, and what is written is the same for every number of them.
-/// Each tune enters `gate` before it is set: once, and by `set` with `even` twice, since there the
-/// tunes are set for their heights first. What each answer means, and what it leaves on each stream,
-/// is said by name in the promises.
+/// Faulty tunes of `set` and `systems` are reported on `errors`, one line each. With `flow` no bar is forced. A score
+/// is moved by `by` semitones before it is set. With `even` the groups of blocks are divided into pages so that no
+/// other division that fits has a smaller total. `jobs` tunes are set in parallel if threads can be made; the bytes
+/// written are the same for every number of jobs. Each tune enters `gate` before it is set: once, or twice by `set`
+/// with `even`, which first sets the tunes for their heights. The promises define by name what each status means and
+/// what it leaves on each stream.
 pub fn run<R: Threads + Sync, S: Source, O: Sink, E: Sink, G: Gate + Sync>(
     rt: &R,
     alloc: Global,

@@ -7,11 +7,11 @@ use ps_write::DocError;
 /// How a run ended.
 #[derive(Clone, Copy, PartialEq, Eq)]
 pub enum Status {
-    /// All was done and written.
+    /// Everything was done and written.
     Done,
-    /// All was written, and some tune has a fault.
+    /// Everything was written, and some tune has a fault.
     SomeRefused,
-    /// The words are in no listed form.
+    /// The words fit no listed form.
     Usage,
     /// The input failed.
     ReadFault,
@@ -19,18 +19,18 @@ pub enum Status {
     WriteFault,
     /// Memory ran out.
     Memory,
-    /// The input is no document, or no listing.
+    /// The input isn't a document, or isn't a listing.
     NotPages,
     /// The input has more bytes than the limit.
     TooLong,
-    /// A choice that was judged isn't least.
+    /// A judged choice isn't least.
     NotLeast,
     /// The machine that paints the input halts.
     Halted,
 }
 
 impl Status {
-    /// The number with which the program exits: 0 for done, and so on in order. No answer has 9.
+    /// Returns the exit number of the program: 0 for done, and so on in order. No status has 9.
     pub fn number(self) -> u8
         ensures { result ≡ status_number self }
     {

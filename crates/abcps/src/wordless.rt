@@ -9,12 +9,12 @@ use eng_io::Sink;
 use std::alloc::AllocError;
 use std::io;
 
-/// Why the words of a run couldn't be had.
+/// Why the words of a run couldn't be obtained.
 #[derive(Clone, Copy, PartialEq, Eq)]
 pub enum WordsError {
     /// A word isn't UTF-8.
     NotText,
-    /// Memory ran out while the words were gathered.
+    /// Memory ran out while the words were collected.
     Memory,
 }
 
@@ -37,9 +37,8 @@ impl From<AllocError> for WordsError {
     }
 }
 
-/// Answers where the words of a run couldn't be had. A word that isn't UTF-8 is in no listed form, so
-/// `errors` is told the usage line and the answer is `Usage`; where memory ran out nothing is written,
-/// and the answer is `Memory`.
+/// Handles a run whose words couldn't be obtained. A word that isn't UTF-8 fits no listed form, so `errors` gets the
+/// usage line and the status is `Usage`. If memory ran out, nothing is written and the status is `Memory`.
 pub fn refuse_words<E: Sink>(why: WordsError, errors: &mut E) -> Status
     ensures { IsWordless why result (observed E.taken E.faults errors.old errors.new) }
 {

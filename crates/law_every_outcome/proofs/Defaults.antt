@@ -10,7 +10,7 @@ use Rattle.abc_field.specs.Last.{last_of}
 use Rattle.abc_field.proofs.GoodLaws.{meter_good, unit_good}
 use Rattle.abc_fields.specs.{Defaults.{defaults_of, line_meter, line_unit}, Good.{GoodUnitIn, IsGoodDefaults}}
 
--- what holds of each that is named holds of the last that is
+-- what holds for each named value holds for the last one
 or_if : {Y : Type 0} (P : Y → Type 0) (o p : Option Y) → IfSome o P → IfSome p P → IfSome (option_or o p) P
 or_if P None p a b = b
 or_if P (Some y) p a b = a

@@ -1,4 +1,4 @@
--- The score that is drawn of any good one as the line of its staves says, or the fault of that line.
+-- The score that is drawn from any good one as the line of its staves says, or the fault of that line.
 use mathlib.Core.{HLevel.{×_discrete}, List.{List-discrete}, Logic.Dec.{and as both}}
 use Rattle.std.proofs.Common.{rules, ◌≡◌, ◌∙◌, refl, sym, ap, subst, ℕ, List, [], ◌∷◌, Bool, true, Decides, length, inl}
 use Rattle.std.proofs.Common.{inr}
@@ -32,13 +32,13 @@ use Rattle.lay_shared.specs.declared.changes.VoiceChanges.{VoiceChanges}
 use Rattle.lay_shared.proofs.DrawnLaws.{drawn_good}
 use Rattle.lay_shared.proofs.PlanLaws.{apart_ids, read-spells, spelled-plan, spelled-read}
 
--- ---- what can be told apart
+-- ---- what can be decided
 
 -- by a test
 pub decided : {P : Type 0} (test : Bool) → Decides test P → Dec P
 decided test tells = map_dec tells.0 tells.1 (Bool-discrete test true)
 
--- by parts that it can be had from
+-- by parts that determine it
 parted : {A B : Type 0} → Discrete B → (f : A → B) (g : B → A) → ((x : A) → g (f x) ≡ x) → Discrete A
 parted parts f g back x y = map_dec (λ e. sym (back x) ∙ ap g e ∙ back y) (ap f) (parts (f x) (f y))
 

@@ -1,5 +1,5 @@
--- Every tune has an outcome, stage by stage: its header, its score, the voices that share staves, the move, the layout
--- and the pages.
+-- Every tune has an outcome, stage by stage: its header, its score, the voices that share staves, the transposition,
+-- the layout and the pages.
 use Rattle.std.proofs.Common.{◌≡◌, refl, ℕ, inl, inr, List, [], ◌∷◌, Option, Some, None, Result, Ok, Err, IfOk, IfSome}
 use Rattle.std.proofs.Common.{length}
 use Rattle.abc_lines.specs.declared.book.TuneText.{TuneText}
@@ -40,7 +40,7 @@ module _ (every_text : EveryTextIsRead) (every_score : EveryScoreIsLaid) where
     faulty : (f : Fault) → IsFaultOfTune tune terms f → HasResult
     faulty f is = (Err f, is)
 
-    -- a tune that is laid out stands on pages, or a group of its blocks is too tall
+    -- a tune that is laid out is placed on pages, or a group of its blocks is too tall
     stands : (t : SetTune) → IsLaidTune tune terms t → (o : Option ℕ)
         → first_tall (body_height terms.paper) (blocks_of t.title t.heights) ≡ o
         → HasResult
@@ -59,7 +59,7 @@ module _ (every_text : EveryTextIsRead) (every_score : EveryScoreIsLaid) where
       heights = l.heights;
     }
 
-    -- a score is laid out, or has no way
+    -- a score is laid out, or has no layout
     lays : (header : Header) (score : Score) → HasScore tune terms.defaults terms.manner header score → HasResult
     lays header score has =
         elim (every_score score (body_width terms.paper) has.good
@@ -74,7 +74,7 @@ module _ (every_text : EveryTextIsRead) (every_score : EveryScoreIsLaid) where
 
     module _ (header : Header) (written : Score)
         (is : IsWritten tune terms.defaults terms.manner.flow header written) where
-      -- the score that is drawn is moved, or can't be
+      -- the drawn score is transposed, or can't be
       moves : (drawn : Score) → IsScoreDrawn header.staves written (Ok drawn) → (o : Option Score)
           → IsMoved drawn header.key terms.manner.by o
           → IfSome o (λ t. IsGoodScore t × (t.measures ≡ drawn.measures) × (length t.voices ≡ length drawn.voices))

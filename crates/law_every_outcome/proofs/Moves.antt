@@ -1,4 +1,4 @@
--- A score is moved by any number of semitones, or it can't be moved so far.
+-- A score is transposed by any number of semitones, or it can't be moved that far.
 use mathlib.Core.Logic.Dec.{and as both}
 use Rattle.std.proofs.Common.{◌≡◌, ◌≢◌, refl, true, length}
 use Rattle.std.proofs.lemmas.List.{length-map}
@@ -21,7 +21,7 @@ can_move d key by =
     (both (Bool-discrete (list_all (voice_may (move_from key by)) d.voices) true)
     (decided (all_in_reach voices) (voices_decide voices))))
 
--- what comes of the score is as good, with as many measures and voices
+-- the result is as good as the score, with as many measures and voices
 abbrev HasMoved : Score → Key → ℤ → Type 0
 HasMoved d key by =
     (r : Option Score)

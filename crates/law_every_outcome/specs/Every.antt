@@ -1,5 +1,5 @@
--- Every tune has an outcome: it is set, or it has a fault. So each book has a list of outcomes, whatever memory there
--- is to find them.
+-- Every tune has an outcome: it is set, or it has a fault. So each book has a list of outcomes, whether or not there
+-- is memory to compute them.
 use Rattle.std.specs.Prelude.{ℕ, List}
 use Rattle.abc_lines.specs.declared.book.TuneText.{TuneText}
 use Rattle.abc_lines.specs.Books.{book_of}

@@ -1,7 +1,7 @@
-//! The law that every tune has an outcome: it is set, or it has a fault. With the law that it has at
-//! most one, each tune of a book is either set, in one way, or told with its one fault.
+//! The law that every tune has an outcome: it is set, or it has a fault. Together with the law that it has at most
+//! one, each tune of a book is either set, in one way, or reported with its one fault.
 //!
-//! No call could promise it, since a call may run out of memory before it has its answer.
+//! No call can promise this, since a call may run out of memory before it has its answer.
 #![tactic(auto)]
 
 pub mod law;

@@ -22,7 +22,7 @@ one_by_kind breaks line LineKind.Music g h a b =
     let o = one_front_of breaks.bang line a.0 b.0 a.1 b.1 a.2 b.2 in a.3 ∙ sym (b.3 ∙ rw (o.0, o.1) refl)
 one_by_kind breaks line kind g h a b = a ∙ sym b
 
--- what some first lines give stands at the front of what all give
+-- what some first lines give is a prefix of what all lines give
 front_given : (breaks : Breaks) (lines more : List Line) (g h : List ItemOrFault)
     → BodyGives breaks lines g → BodyGives breaks (lines ++ more) h → (rest : List ItemOrFault) × (h ≡ g ++ rest)
 front_given breaks _ more _ h no_lines b = (h, refl)

@@ -1,4 +1,4 @@
--- What stands behind a bracket that opens no chord, or behind a brace that opens no grace group, has one fault.
+-- The text after a bracket that opens no chord, or after a brace that opens no grace group, has one fault.
 use Rattle.std.proofs.Common.{◌≡◌, ◌∙◌, refl, sym, ap, subst, ℕ, List, [], ◌∷◌, ◌++◌, Bool, true, false, None}
 use Rattle.std.proofs.lemmas.Bool.{true≢false}
 use Rattle.std.specs.Prelude.{◌==◌}
@@ -22,7 +22,7 @@ none_at_bracket : (bang : Bool) (rest : List ℕ) → HasNone Inner (StandsInsid
 unfolding inner_at item_class
 none_at_bracket bang rest = none_of (inner_reader bang) (93 ∷ rest) refl
 
--- where no bracket stands in a text, none stands behind its parts
+-- if a text has no bracket, it has none after its parts
 still_inside : (bang : Bool) (text : List ℕ) (ps : List Inner) (x : List ℕ)
     → list_all is_inside text ≡ true → InnerLeads bang text ps x → list_all is_inside x ≡ true
 still_inside bang _ _ _ all (leads_here text) = all

@@ -1,4 +1,4 @@
--- One breaking is chosen, and its sums are one.
+-- One breaking is chosen, and its sums are unique.
 use Rattle.std.proofs.Common.{◌≡◌, ◌∙◌, ℕ, ◌+◌, ◌≤◌, Bool, List, length, slice_index_or, Option, Some, None, refl, sym}
 use Rattle.std.proofs.Common.{ap, arith}
 use Rattle.std.proofs.lemmas.List.{ext_get_or}
@@ -6,7 +6,7 @@ use Rattle.lay_breaks.specs.declared.breaking.Breaking.{Breaking}
 use Rattle.lay_breaks.specs.Breaking.{IsChosen, IsPotential, sum_from}
 use Rattle.lay_breaks.proofs.Unique.{one_is_chosen}
 
--- a chosen breaking of n bars, what it costs, and the potential of each bar
+-- a chosen breaking of n bars, its cost, and the potential of each bar
 pub record IsBreaking (cost : ℕ → ℕ → Option ℕ) (forced : ℕ → Bool) (n : ℕ) (breaking : Breaking) : Type 0 where
   pub chosen : IsChosen cost forced n breaking.breaks
   pub total : breaking.total ≡ sum_from cost 0 breaking.breaks

@@ -1,4 +1,4 @@
--- The columns of a system stand in one way.
+-- The columns of a system are placed in only one way.
 use Rattle.std.proofs.Common.{◌≡◌, ◌∙◌, ℕ, ◌-◌, ◌*◌, ◌/◌, ◌<◌, inl, inr, ◌==◌, Bool, true, false, ℤ, pos, ◌+ℤ◌, List}
 use Rattle.std.proofs.Common.{length, slice_index_or, Option, refl, sym, ap, subst, arith}
 use Rattle.std.proofs.lemmas.Int.{ints}
@@ -24,7 +24,7 @@ one_end : (reach : ℕ → Option Reach) (lanes : ℕ) (at d e : ℤ)
 one_end reach lanes at d e h k =
     let a = h.least e k.past k.reaches in let b = k.least d h.past h.reaches in omega (arith, ints)
 
--- x moved right by the parts of what is left past its end
+-- x moved right by the parts of the width left past its end
 abbrev IsMoved : ℕ → (ℕ → Option Reach) → ℕ → ℕ → List ℤ → List ℤ → Type 0
 IsMoved n reach lanes width x at =
     (e : ℤ) × (rest : ℕ) × IsEndOf reach lanes (slice_index_or x (n - 1) (pos 0)) e × ((e +ℤ pos rest) ≡ pos width)
@@ -38,7 +38,7 @@ moved_alike n reach lanes width x at to (d, rest, end, whole, stand) (e, more, o
     let left : rest ≡ more = omega (arith, ints) in
     stand k less ∙ sym (fall k less ∙ rw (← left) refl)
 
--- columns are set to a width in one way
+-- columns are set to a width in only one way
 one_set : (n : ℕ) (reach : ℕ → ℕ → Option Reach) (gaps : List ℕ) (spring : ℕ → ℕ → ℕ) (width force : ℕ) (at to : List ℤ)
     → IsSet n reach gaps spring width force at → IsSet n reach gaps spring width force to → at ≡ to
 one_set n reach gaps spring width force at to h g =
@@ -57,7 +57,7 @@ one_set n reach gaps spring width force at to h g =
 abbrev placed_at : ℕ → Bool → List ℤ → Placed
 placed_at force ragged at = record { force = force; ragged = ragged; at = at }
 
--- columns pressed with one force stand in one way
+-- columns at one force are placed in only one way
 one_at : (gaps : List ℕ) (width : ℕ) (last : Bool) (columns : List Column) (force : ℕ) (ragged : Bool) (at to : List ℤ)
     → IsJustified gaps width last columns (placed_at force ragged at)
     → IsJustified gaps width last columns (placed_at force ragged to)
@@ -81,7 +81,7 @@ one_justified gaps width last columns p q h k =
     (subst (IsJustified gaps width last columns) (sym under) k) in
     let made : placed_at p.force p.ragged p.at ≡ placed_at p.force p.ragged q.at = cc in made ∙ under
 
--- the columns of a system are placed in one way
+-- the columns of a system are placed in only one way
 pub one_placed : (s : Score) (width : ℕ) (m : SystemMarks) (p q : Placed)
     → IsPlaced s width m p → IsPlaced s width m q → p ≡ q
 one_placed s width m p q h k = one_justified (score_gaps s) width (m.b == s.measures) (system_columns s m) p q h k

@@ -31,7 +31,7 @@ one_set s width a b m n p q h k =
       placed,
     )
 
--- two things for each span, of things that a span has one of
+-- two things for each span, each of which is unique for the span
 one_each : {X Y : Type 0} (P : ℕ → ℕ → X → Y → Type 0)
     → ((a b : ℕ) (x u : X) (y v : Y) → P a b x y → P a b u v → (x ≡ u) × (y ≡ v))
     → (a : ℕ) (breaks : List ℕ) (xs us : List X) (ys vs : List Y)
@@ -82,7 +82,7 @@ one_reached cost forced n i j a b =
     let under = b.greatest i a.legal.0 a.within a.legal.1 in
     omega (arith, over, under)
 
--- the bar that is reached doesn't hang on how the spans were listed
+-- the bar that is reached does not depend on how the spans were listed
 pub one_way : (s : Score) (width i j : ℕ) (xs ys : List Span) → IsNoWay s width i xs → IsNoWay s width j ys → i ≡ j
 one_way s width i j xs ys a b =
     let same : ys ≡ xs = one_list s width ys xs b.form a.form b.exact a.exact in

@@ -1,4 +1,4 @@
--- What holds of lent values holds of the values.
+-- What holds of borrowed values holds of the values.
 use Rattle.std.proofs.Common.{◌≡◌, ◌∙◌, ℕ, ◌+◌, ◌<◌, List, [], ◌∷◌, ◌++◌, ap, get_or, length, map, subst, sym, take}
 use Rattle.std.proofs.lemmas.List.{map-append, take_more}
 use Rattle.std.proofs.lemmas.List.Elements.{All-cons, All-head, All-nil, All-tail}
@@ -27,7 +27,7 @@ module _ {A B : Type 0} (f : A → B) where
       → map f xs ≡ bs → AllZip (λ x y. R (f x) y) xs ys → AllZip R bs ys
   zip_lent R xs bs ys same zip = subst (λ bs. AllZip R bs ys) same (zip_of_map R xs ys zip)
 
-  -- one value more is lent
+  -- one more value is borrowed
   pub lent_more : (xs : List A) (bs : List B) (i : ℕ) (x : A)
       → i < length bs → f x ≡ get_or bs i (f x) → map f xs ≡ take i bs → map f (xs ++ x ∷ []) ≡ take (i + 1) bs
   lent_more xs bs i x short is all =

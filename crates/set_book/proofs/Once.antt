@@ -1,4 +1,4 @@
--- A tune has one outcome: what comes of each stage of its setting is one.
+-- A tune has one outcome, since each stage of its setting has one result.
 use Rattle.std.proofs.Common.{◌≡◌, ◌∙◌, refl, sym, ap, subst, ℕ, zero, ℤ, pos, List, [], ◌∷◌, Option, Some, None}
 use Rattle.std.proofs.Common.{Result, Ok, Err, inl, inr}
 use Rattle.std.specs.Prelude.{MatchOption}
@@ -45,7 +45,7 @@ reads_once tune defaults (Ok h) (Err g) a b = let clash = sym a.clear ∙ b in c
 reads_once tune defaults (Err f) (Ok k) a b = let clash = sym b.clear ∙ a in cc
 reads_once tune defaults (Err f) (Err g) a b = let same = sym a ∙ b in cc
 
--- ---- the score that is drawn, or the fault of the line of its staves
+-- ---- the drawn score, or the fault of the line of its staves
 drawn_once : (staves : Option Line) (w : Score) → IsGoodScore w → IsOnce Score (IsScoreDrawn staves w)
 drawn_once None w good r q a b = a ∙ sym b
 drawn_once (Some line) w good (Ok s) (Ok t) (p, spells, share, is) (o, spelled, shared, at) =
@@ -63,7 +63,7 @@ drawn_once (Some line) w good (Err f) (Err g) (inr (p, spells, apart, is)) (inl 
 drawn_once (Some line) w good (Err f) (Err g) (inr (p, spells, apart, is)) (inr (o, spelled, other, at)) =
     ap Err (is ∙ sym at)
 
--- ---- the score that is moved
+-- ---- the transposed score
 one_of : (can : Type 0) (m : Score) (r q : Option Score)
     → MatchOption r (can → ⊥) (λ t. can × (t ≡ m)) → MatchOption q (can → ⊥) (λ t. can × (t ≡ m)) → r ≡ q
 one_of can m None None a b = refl
@@ -93,7 +93,7 @@ moves_once tune by h d (Ok p) (Err g) a b = let clash = moved_once d h.key by (S
 moves_once tune by h d (Err f) (Ok q) a b = let clash = moved_once d h.key by None (Some q.1) a.0 b.1 in cc
 moves_once tune by h d (Err f) (Err g) a b = ap Err (a.1 ∙ sym b.1)
 
--- what comes of a tune up to its score
+-- the result of a tune up to its score
 abbrev Scores : TuneText → Defaults → Manner → Result (Header × Score) Fault → Type 0
 Scores tune defaults manner =
     Then Header (Header × Score) (Reads tune defaults) (λ h.
@@ -190,7 +190,7 @@ fits_once tune high t (Err f) (Err g) (i, tall, is) (j, more, at) =
     let block : i ≡ j = cc in
     ap Err (is ∙ ap (λ n. layout_fault tune (FaultKind.TooTall n)) block ∙ sym at)
 
--- ---- what comes of a tune
+-- ---- the outcome of a tune
 abbrev Comes : TuneText → Terms → Result SetTune Fault → Type 0
 Comes tune terms =
     Then (Header × Score) SetTune (Scores tune terms.defaults terms.manner)

@@ -8,7 +8,7 @@ use Rattle.abc_notes.specs.Parts.{IsLongest, HasNone, LeadsByParts, leads_here, 
 use Rattle.abc_notes.specs.Parts.{stuck_later, IsFlaw, length_at_place, goes_on_length}
 use Rattle.abc_notes.proofs.PartLaws.{Reader, longest_is, none_of, at_nil}
 
--- a test gives two values one meaning where each of its sides does
+-- a test means the same for two values if each of its sides does
 pub by_test : {A B C D E : Type 0} (b : Bool) → (A → C → E) → (B → D → E) → MatchBool b A B → MatchBool b C D → E
 by_test true first second a b = first a b
 by_test false first second a b = second a b
@@ -27,7 +27,7 @@ module _ {I : Type 0} {Stands : I → List ℕ → List ℕ → Type 0} {at : Li
       let e : Some (part_and p x) ≡ Some (part_and q y) = sym (longest_is r text p x l) ∙ longest_is r text q y m in
       let same = same_Some (part_and p x) (part_and q y) e in (ap (λ z. z.0) same, ap (λ z. z.1) same)
 
-  -- the place where no part stands
+  -- the place that no part begins at
   pub one_stop : (text : List ℕ) (ps : List I) (x : List ℕ) (qs : List I) (y : List ℕ)
       → LeadsByParts I Stands text ps x → HasNone I Stands x → LeadsByParts I Stands text qs y → HasNone I Stands y
       → x ≡ y

@@ -1,4 +1,4 @@
--- There is one first of the faults of a score: of their kinds each has a rank of its own.
+-- A score has one first fault: each kind of fault has its own rank.
 use Rattle.std.proofs.Common.{◌≡◌, ◌∙◌, refl, sym, ap, subst, ℕ, ◌<◌, List, [], ◌∷◌, ◌++◌, get_or, Bool, true, false}
 use Rattle.std.proofs.Common.{cond, None, arith, rules}
 use Rattle.std.proofs.lemmas.List.Elements.{All-from_recursion, All-contains}
@@ -31,7 +31,7 @@ use Rattle.abc_score.proofs.Basics.{all_both}
 
 -- ---- the kind of a rank
 
--- the kinds in order, but for the faults of shared staves, of a move and of a layout
+-- the kinds in order, except the faults of shared staves, of a transposition and of a layout
 abbrev ranked : List FaultKind
 ranked =
     FaultKind.NoKey ∷ FaultKind.BadMeter ∷ FaultKind.BadUnit ∷ FaultKind.BadKey ∷ FaultKind.BadVoice
@@ -51,7 +51,7 @@ kind_is (FaultKind.NoWay reached) h = absurd (omega (arith, h))
 kind_is (FaultKind.TooTall block) h = absurd (omega (arith, h))
 kind_is kind h = refl
 
--- ---- faults of which the rank tells the kind
+-- ---- faults whose rank determines the kind
 abbrev pub IsRanked : Fault → Type 0
 IsRanked fault = kind_rank fault.kind < 20
 
@@ -141,7 +141,7 @@ level f g h i = (grind (arith, nat_tests), grind (arith, nat_tests), grind (arit
 abbrev fault_of : FaultKind → ℕ → ℕ → Fault
 fault_of kind line column = record { kind = kind; line = line; column = column }
 
--- two faults of which neither comes first are one where their ranks tell their kinds
+-- two faults of which neither comes first are equal if their ranks determine their kinds
 pub one_least : (faults : List Fault) (f g : Fault)
     → AreRanked faults → IsLeastFault faults f → IsLeastFault faults g → f ≡ g
 one_least faults f g h a b =

@@ -1,4 +1,4 @@
--- The outcome of a tune may cross to another thread, as each part of it may: from the plain types up to `Outcome`.
+-- The outcome of a tune may move to another thread, as each part of it may: from the plain types up to `Outcome`.
 use denote.RattleType.{RattleType}
 use denote.Hole.{as_row}
 use denote.Hole.FixSend.{Sends, fix_send}
@@ -25,7 +25,7 @@ u8_send = search sendable depth 10
 bool_send : IsSend (as_row bool-field)
 bool_send = search sendable depth 10
 
--- ---- lists, texts and what may be missing, by themselves and as fields
+-- ---- lists, texts and optional values, by themselves and as fields
 pub row_send : (T : RattleType) → IsSend T → IsSend (units.text.Row.the_row T)
 row_send T s =
     view_send _ _ _ _ _
@@ -42,7 +42,7 @@ text_send =
 option_send : (T : RattleType) → IsSend T → IsSend (Option.the_row T)
 option_send T s = variants_send (Option.enum T) (search (sendable, s) depth 10)
 
--- ---- what is made of these
+-- ---- types made of these
 ruleset parts = (sendable, row_send, row, text_send, option_send)
 
 head_send : IsSend units.note.Head.the_row
@@ -68,7 +68,7 @@ event_send =
     declared_send score.Event.the_type
     (search (parts, head_send, value_send, changes_send, deco_send, mention_send) depth 200 fits 20000)
 
--- the tree of music where it stands in itself, by one layer of it
+-- the tree of music where it occurs in itself, by one layer of it
 music_layer : Sends score.Music.the_ring score.Music.the_member
 music_layer = record {
   send = λ h s. let inner = as_row_send (row_field _) (row_send _ (s score.Music.the_member)) in

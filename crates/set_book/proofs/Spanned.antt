@@ -10,7 +10,7 @@ use Rattle.lay_tune.proofs.Breakings.{cost_can_be, one_cost}
 use Rattle.lay_tune.proofs.Called.{has_system}
 use Rattle.lay_tune.proofs.Open.{some_of}
 
--- what is listed is the first span of the list, or listed behind it
+-- a listed span is the first of the list, or listed after it
 data Found (s : Span) (ss : List Span) (a b v : ℕ) : Type 0 where
   is_first : s.a ≡ a → s.b ≡ b → s.badness ≡ v → Found s ss a b v
   is_later : listed ss a b ≡ Some v → Found s ss a b v
@@ -22,7 +22,7 @@ found s ss a b v e = at (has_ends a b s) refl e
     at true is e = let ends = ends_are a b s is in is_first ends.0 ends.1 (same_Some s.badness v e)
     at false is e = is_later e
 
--- ---- a list in order has a span once
+-- ---- a list in order has each span once
 abbrev IsPast : Span → ℕ → ℕ → Type 0
 IsPast p a b = (p.a ≤ a) × (p.a ≡ a → p.b < b)
 
@@ -31,12 +31,12 @@ next_past : (p s : Span) → IsNextSpan p s → IsPast p s.a s.b
 next_past p s (inl h) = let l = h.0 in (omega (arith, l), λ e. omega (arith, l, e))
 next_past p s (inr h) = let l = h.0 in let m = h.1 in (omega (arith, l), λ e. omega (arith, m))
 
--- and so is what is past that
+-- and so is any span past that
 far_past : (p s : Span) (a b : ℕ) → IsPast p s.a s.b → IsPast s a b → IsPast p a b
 far_past p s a b h k =
     let l = h.0 in let m = k.0 in let n = h.1 in let o = k.1 in (omega (arith, l, m), λ e. omega (arith, l, m, n, o, e))
 
--- what is listed behind p is past it
+-- a span listed after p is past p
 listed_past : (n : ℕ) (p : Span) (ss : List Span)
     → SpansFrom n (Some p) ss → (a b v : ℕ) → listed ss a b ≡ Some v → IsPast p a b
 listed_past n p [] h a b v e = absurd (none-some v e)
@@ -45,7 +45,7 @@ listed_past n p (s ∷ ss) h a b v e = elim (found s ss a b v e) [
   | is_later more ↦ far_past p s a b (next_past p s h.0.follows) (listed_past n s ss h.1 a b v more)
 ]
 
--- p is not listed behind itself
+-- p is not listed after itself
 not_again : (n : ℕ) (p : Span) (ss : List Span) → SpansFrom n (Some p) ss → listed ss p.a p.b ≡ None
 not_again n p ss h = at (listed ss p.a p.b) refl
   where
@@ -54,14 +54,14 @@ not_again n p ss h = at (listed ss p.a p.b) refl
     at (Some v) e =
         absurd (let past = listed_past n p ss h p.a p.b v e in let less = past.1 refl in omega (arith, less))
 
--- ---- lists in order that list the same are one
+-- ---- lists in order with the same members are equal
 abbrev span_of : ℕ → ℕ → ℕ → Span
 span_of a b badness = record { a = a; b = b; badness = badness }
 
 first_listed : (s : Span) (ss : List Span) → listed (s ∷ ss) s.a s.b ≡ Some s.badness
 first_listed s ss = rw (has_these s.a s.b s refl refl) refl
 
--- lists that list the first of each other begin alike
+-- lists that each list the first of the other begin alike
 same_first : (n : ℕ) (p s : Span) (ps ss : List Span)
     → SpansFrom n (Some p) ps → SpansFrom n (Some s) ss → Found p ps s.a s.b s.badness → Found s ss p.a p.b p.badness
     → p ≡ s
@@ -79,7 +79,7 @@ same_first n p s ps ss h k (is_later more) (is_later others) =
     let q = back.1 (sym e) in
     absurd (omega (arith, o, q))
 
--- what the lists behind one and the same span list
+-- the members of the lists after the same span
 behind : (n : ℕ) (s : Span) (xs ys : List Span)
     → SpansFrom n (Some s) xs → SpansFrom n (Some s) ys → (a b : ℕ) → listed (s ∷ xs) a b ≡ listed (s ∷ ys) a b
     → listed xs a b ≡ listed ys a b
@@ -119,7 +119,7 @@ agree None None on back = refl
 agree None (Some v) on back = back v refl
 agree (Some v) p on back = sym (on v refl)
 
--- a span that one list has the other has
+-- a span that is in one list is in the other
 also : (s : Score) (width : ℕ) (xs ys : List Span)
     → AreSpans s.measures xs → AreSpansOf s width xs → AreSpansOf s width ys → (a b v : ℕ) → listed xs a b ≡ Some v
     → listed ys a b ≡ Some v

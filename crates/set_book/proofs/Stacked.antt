@@ -1,4 +1,4 @@
--- The staves of a system are stacked in one way.
+-- The staves of a system are stacked in only one way.
 use Rattle.std.proofs.Common.{◌≡◌, ◌∙◌, ℕ, ℤ, pos, ◌+ℤ◌, ◌-ℤ◌, List, [], ◌∷◌, refl, sym, ap, subst, arith}
 use Rattle.std.proofs.lemmas.Int.{ints}
 use Rattle.mus_score.specs.declared.score.Score.{Score}
@@ -31,7 +31,7 @@ one_stack top gaps staves bases others bottom floor h k = absurd h
 abbrev heights_of : List ℤ → ℤ → Heights
 heights_of bases height = record { bases = bases; height = height }
 
--- the staves of a system are stacked in one way
+-- the staves of a system are stacked in only one way
 pub one_stacked : (s : Score) (m : SystemMarks) (x y : Heights) → IsStack s m x → IsStack s m y → x ≡ y
 one_stacked s m x y h k =
     let both = one_stack (pos 0) (gaps_between s.voices) m.staves x.bases y.bases (pos 0 -ℤ x.height)
@@ -42,7 +42,7 @@ one_stacked s m x y h k =
     let made : heights_of x.bases x.height ≡ heights_of y.bases y.height = cc in
     made
 
--- what belongs beside things one by one, where one thing belongs beside each
+-- partners of things one by one are unique if each thing has one partner
 pub one_beside : {X Y : Type 0} (P : X → Y → Type 0)
     → ((x : X) (y z : Y) → P x y → P x z → y ≡ z) → (xs : List X) (ys zs : List Y) → Beside P xs ys → Beside P xs zs
     → ys ≡ zs

@@ -1,12 +1,12 @@
--- What comes of stages one after the other is one where what comes of each is.
+-- A sequence of stages has one result if each stage has.
 use Rattle.std.proofs.Common.{◌≡◌, sym, subst, Result, Ok, Err}
 use Rattle.abc_lines.specs.declared.fault.Fault.{Fault}
 
--- what comes of a stage is one
+-- a stage has one result
 abbrev pub IsOnce : (X : Type 0) → (Result X Fault → Type 0) → Type 0
 IsOnce X P = (r q : Result X Fault) → P r → P q → r ≡ q
 
--- a stage, and where it has no fault the next one
+-- a stage, and, if it has no fault, the next one
 pub data Then (X Y : Type 0) (P : Result X Fault → Type 0) (Q : X → Result Y Fault → Type 0) : Result Y Fault
     → Type 0 where
   goes_on : (x : X) (r : Result Y Fault) → P (Ok x) → Q x r → Then X Y P Q r

@@ -1,5 +1,5 @@
--- A tune has one outcome: what it is set as, or its fault, follows from the tune and its terms, and from nothing of how
--- it was set. So a book has one list of outcomes, however many jobs set it.
+-- A tune has one outcome: how it is set, or its fault, follows from the tune and its terms alone, and does not depend
+-- on how it was computed. So a book has one list of outcomes, however many jobs set it.
 use Rattle.std.specs.Prelude.{◌≡◌, ℕ, List}
 use Rattle.abc_lines.specs.declared.book.TuneText.{TuneText}
 use Rattle.abc_lines.specs.declared.fault.Fault.{Fault}
@@ -20,7 +20,7 @@ pub record IsOneSystem (score : Score) (a b : ℕ) (marks : SystemMarks) : Type 
   pub only : (other : SystemMarks) → IsSystemOf score a b other → other ≡ marks
 
 pub record HaveOneOutcome : Type 0 where
-  -- a tune that is set is set in one way
+  -- a tune that is set is set in only one way
   pub set : (tune : TuneText) (terms : Terms) (t u : SetTune) → IsSetTune tune terms t → IsSetTune tune terms u → t ≡ u
   -- a tune has one fault
   pub fault : (tune : TuneText) (terms : Terms) (f g : Fault)

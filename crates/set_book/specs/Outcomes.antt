@@ -1,4 +1,4 @@
--- What comes of the tunes of a book: one outcome for each, in order.
+-- The outcomes of the tunes of a book: one for each, in order.
 use Rattle.std.specs.{Prelude.{◌≡◌, List, Result, Ok, Err}, List.AllZip}
 use Rattle.abc_lines.specs.declared.book.TuneText.{TuneText}
 use Rattle.abc_lines.specs.declared.fault.Fault.{Fault}
@@ -11,7 +11,7 @@ abbrev pub IsResult : TuneText → Terms → Result SetTune Fault → Type 0
 IsResult tune terms (Ok t) = IsSetTune tune terms t
 IsResult tune terms (Err fault) = IsFaultOfTune tune terms fault
 
--- the tune set, or its one fault, under its place in the book
+-- the tune as set, or its one fault, with its number in the book
 pub record IsOutcome (terms : Terms) (tune : TuneText) (o : Outcome) : Type 0 where
   pub ordinal : o.ordinal ≡ tune.ordinal
   pub result : IsResult tune terms o.result

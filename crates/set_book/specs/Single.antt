@@ -1,4 +1,4 @@
--- Defaults are good in one way.
+-- Defaults are good in only one way.
 use Rattle.std.proofs.{Common.{Option, Some, None}, Props.props}
 use Rattle.mus_units.specs.declared.key.Meter.TheVariants as meters
 use Rattle.mus_units.specs.{declared.{value.Frac.Frac, key.Meter.Meter}, Good.{IsGoodMeter}}

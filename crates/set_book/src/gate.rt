@@ -1,6 +1,6 @@
-/// What each tune enters before it is set.
+/// A gate that each tune enters before it is set.
 pub trait Gate {
-    /// Tells that the tune with this ordinal is set next.
+    /// Reports that the tune with this ordinal is set next.
     fn enter(&self, tune: u32);
 }
 

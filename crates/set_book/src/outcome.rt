@@ -1,8 +1,7 @@
 use abc_lines::Fault;
 use set_tune::SetTune;
 
-/// What came of a tune: its place among the tunes of the book, from 1, and the tune as it is set, or
-/// its one fault.
+/// The outcome of a tune: its number in the book, from 1, and the tune as it is set, or its one fault.
 #[derive(Drop)]
 pub struct Outcome {
     pub ordinal: u32,

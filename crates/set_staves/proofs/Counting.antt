@@ -1,4 +1,4 @@
--- How many different numbers of a list are below another: as many as there are, where the list has each.
+-- How many different numbers of a list are below a bound: as many as there are, if the list has each.
 use Rattle.std.proofs.Common.{◌≡◌, ℕ, zero, suc, ◌+◌, ◌<◌, ◌==◌, ◌&&◌, ◌||◌, not, nat_lt, if◌then◌else◌, Bool, true}
 use Rattle.std.proofs.Common.{false, IsTrue, List, [], ◌∷◌, refl, ap, arith}
 use Rattle.std.proofs.lemmas.Bool.Decides.{nat_tests}
@@ -13,7 +13,7 @@ abbrev one_if : Bool → ℕ
 one_if true = 1
 one_if false = 0
 
--- the number a is counted below r + 1 and not below r only where it is r and is not met again
+-- the number a is counted below r + 1 and not below r only if it is r and does not occur again
 step : (a r more less : ℕ) (again found : Bool) → (a ≡ r → again ≡ found) → more ≡ less + one_if found
     → (if nat_lt a (suc r) && not again then more + 1 else more)
     ≡ (if nat_lt a r && not again then less + 1 else less) + one_if ((r == a) || found)

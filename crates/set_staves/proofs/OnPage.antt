@@ -1,4 +1,4 @@
--- What stands on a page has numbers of a page, and bytes that can be printed may be shown there.
+-- What is placed on a page has numbers in the range of a page, and bytes that can be printed may be shown there.
 use Rattle.std.proofs.Common.{◌≡◌, ℕ, suc, ◌<◌, ℤ, pos, List, [], ◌∷◌, length, get_or, refl, sym, subst, arith}
 use Rattle.std.proofs.lemmas.Bool.{and_from, and_parts}
 use Rattle.std.proofs.lemmas.Bool.Decides.{nat_tests}

@@ -1,4 +1,4 @@
--- A list that is made one value at a time.
+-- A list that is built one value at a time.
 use Rattle.std.proofs.Common.{◌≡◌, ℕ, suc, ◌+◌, ◌<◌, ℤ, ◌+ℤ◌, List, [], ◌∷◌, ◌++◌, length, map, take, drop, get_or, All}
 use Rattle.std.proofs.Common.{sym, ap, ap₂, ◌∙◌, subst, add-one, drop-cons, append_assoc}
 use Rattle.std.proofs.lemmas.List.{map-append, take_more}

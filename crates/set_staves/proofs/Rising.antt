@@ -1,4 +1,4 @@
--- Columns that rise stand in the order of their ranks, and are told apart by where they stand.
+-- Rising columns are in the order of their ranks, and are distinguished by their abscissas.
 use Rattle.std.proofs.Common.{◌≡◌, ℕ, zero, suc, ◌+◌, ◌-◌, ◌<◌, ◌==◌, ◌||◌, nat_lt, true, IsTrue, int_lt, List, [], ◌∷◌}
 use Rattle.std.proofs.Common.{length, map, ℤ, pos, ◌<ℤ◌, Some, refl, ap, ap₂, ◌∙◌, subst, arith, inl, inr}
 use Rattle.std.proofs.lemmas.Bool.{cases_order}
@@ -46,7 +46,7 @@ alike_at : (at : List ℤ)
 alike_at at rise i j l m =
     alike (x_at at i) (x_at at j) i j (λ o. rises at rise i j o m) (λ o. rises at rise j i o l) (λ e. ap (x_at at) e)
 
--- a rank is among some exactly where its abscissa is among theirs
+-- a rank is among some exactly when its abscissa is among theirs
 pub any_at : (at : List ℤ)
     → RisesAlong at → (i : ℕ) (all : List ℕ) → i < length at → AllByRecursion (λ r. r < length at) all
     → list_any (is_same (x_at at i)) (map (x_at at) all) ≡ list_any (λ y. i == y) all
@@ -54,7 +54,7 @@ any_at at rise i [] l h = refl
 any_at at rise i (r ∷ all) l (here, more) =
     ap₂ (λ a b. a || b) (alike_at at rise i r l here) (any_at at rise i all l more)
 
--- as many different abscissas are below one as different ranks are below its rank
+-- the number of different abscissas below one is the number of different ranks below its rank
 count_at : (at : List ℤ) → RisesAlong at → (i : ℕ) (all : List ℕ) → i < length at
     → AllByRecursion (λ r. r < length at) all
     → count_below (x_at at i) (map (x_at at) all) ≡ distinct_below i all
@@ -62,7 +62,7 @@ count_at at rise i [] l h = refl
 count_at at rise i (r ∷ all) l (here, more) =
     rw (below_at at rise r i here l, any_at at rise r all here more, count_at at rise i all l more) refl
 
--- the rank of the abscissa of a column is the column's, where each column is some anchor's
+-- the rank of a column's abscissa is the rank of the column, if each column is some anchor's
 pub ranked_at : (at : List ℤ)
     → RisesAlong at → (i : ℕ) (all : List ℕ) → i < length at → AllByRecursion (λ r. r < length at) all
     → ((k : ℕ) → k < length at → IsTrue (list_any (λ y. k == y) all))

@@ -62,7 +62,7 @@ mark_below n (Mark.Stem rank dx from to) rs h k = (h, k)
 mark_below n (Mark.Beam way first last from to) rs h k = k
 mark_below n (Mark.Arc first last from to bulge) rs h k = k
 
--- marks, and staves of them, of which each has its ranks below a number
+-- marks, and staves of marks, whose ranks are all below a number
 abbrev Ranked : ℕ → List Laid → Type 0
 Ranked n all = AllByRecursion (λ laid. IsRanked n laid.mark) all
 
@@ -78,7 +78,7 @@ staves_below n [] h = tt
 staves_below n (s ∷ more) h =
     below_both n (marks_ranks s.marks) (staves_ranks more) (marks_below n s.marks h.0) (staves_below n more h.1)
 
--- ---- what is read off
+-- ---- what is read
 abbrev IsRead : List ℤ → List ℤ → Type 0
 IsRead at all = (i : ℕ) → i < length at → rank_of all (x_at at i) ≡ Some (pos i)
 
@@ -123,7 +123,7 @@ by_recursion n (s ∷ more) h = (
   by_recursion n more (All-tail (λ t. AreMarksRanked n t.marks) s more h),
 )
 
--- where columns rise, marks have their ranks among them, and each column holds an anchor
+-- if columns rise, marks have their ranks among them, and each column holds an anchor
 pub shows_call : (width : ℕ) (at : List ℤ) (top : ℤ) (staves : List StaffMarks) (bases : List ℤ)
     → RisesAlong at → length bases ≡ length staves
     → All (λ s. AreMarksRanked (length at) s.marks) staves → AreAnchored (length at) (staves_ranks staves)
@@ -136,7 +136,7 @@ shows_call width at top staves bases rise e h has =
     ∙ ranked_at at rise i (staves_ranks staves) l below has)
     staves bases e along
 
--- ---- the columns that are read are those at which marks stand
+-- ---- the columns that are read are those of the marks
 pub x_read : (at : List ℤ) (k : ℕ) (d : ℤ) → k < length at → x_at at k ≡ get_or at k d
 x_read [] k d inside = absurd (omega arith)
 x_read (x ∷ at) zero d inside = refl

@@ -1,4 +1,4 @@
--- What is asked of a system before it is drawn.
+-- The conditions on a system before it is drawn.
 use Rattle.std.specs.Prelude.{ℕ, ◌^◌, ◌≤◌, ℤ, pos, ◌+ℤ◌, ◌≤ℤ◌}
 
 -- the top of a system, above the foot of its page

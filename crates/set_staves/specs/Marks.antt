@@ -1,5 +1,5 @@
--- The marks that a system calls for, as they stand on a page: each rank is replaced by where the column
--- of that rank stands. They are shown where the ranks read off the page are those that were called for.
+-- The marks that a system calls for, as they are on a page: each rank is replaced by the abscissa of the column of
+-- that rank. They are shown if the ranks read off the page are the ranks called for.
 use Rattle.std.specs.Prelude.{◌≡◌, ℕ, ◌+◌, ◌<◌, ℤ, pos, ◌+ℤ◌, ◌<ℤ◌, ⊤, List, [], ◌∷◌, length, map, Some, All, Contains}
 use Rattle.std.specs.Prelude.{slice_index_or}
 use Rattle.mus_laid.specs.declared.laid.Mark.{Mark}
@@ -10,7 +10,7 @@ use Rattle.ps_text.specs.declared.marks.PageMark.{PageMark}
 use Rattle.ps_text.specs.declared.sheet.Staff.{Staff}
 use Rattle.ps_text.specs.declared.sheet.Item.{Item}
 
--- where the column of a rank stands; 0 where there is no such column
+-- the abscissa of the column of a rank; 0 if there is no such column
 abbrev pub x_at : List ℤ → ℕ → ℤ
 x_at at rank = slice_index_or at rank (pos 0)
 
@@ -22,11 +22,11 @@ mark_at x (Mark.Stem rank dx from to) = PageMark.Stem (x rank) dx from to
 mark_at x (Mark.Beam way first last from to) = PageMark.Beam way (x first) (x last) from to
 mark_at x (Mark.Arc first last from to bulge) = PageMark.Arc (x first) (x last) from to bulge
 
--- a mark where its columns stand
+-- a mark where its columns are
 abbrev pub page_mark : List ℤ → Mark → PageMark
 page_mark at mark = mark_at (x_at at) mark
 
--- a mark with its ranks themselves, as they are read off a page
+-- a mark with the ranks themselves, as they are read off a page
 abbrev pub called_mark : Mark → PageMark
 called_mark mark = mark_at pos mark
 
@@ -46,7 +46,7 @@ staves_at width at top (s ∷ more) (b ∷ bases) = staff_at width at (top +ℤ 
 abbrev pub system_at : ℕ → List ℤ → ℤ → SystemMarks → List ℤ → Item
 system_at width at top m bases = Item.System m.a m.b (staves_at width at top m.staves bases)
 
--- each column stands to the right of the one before it
+-- each column is to the right of the one before it
 abbrev pub RisesAlong : List ℤ → Type 0
 RisesAlong at = (i : ℕ) → i + 1 < length at → slice_index_or at i (pos 0) <ℤ slice_index_or at (i + 1) (pos 0)
 
@@ -57,11 +57,11 @@ ShowsIn system [] (s ∷ more) = ⊥
 ShowsIn system (staff ∷ staves) [] = ⊥
 ShowsIn system (staff ∷ staves) (s ∷ more) = (ranks system staff ≡ Some (called_marks s)) × ShowsIn system staves more
 
--- the same of all its staves
+-- the same for all its staves
 abbrev pub ShowsCall : List Staff → List StaffMarks → Type 0
 ShowsCall staves called = ShowsIn staves staves called
 
--- the columns that are read off the staves of a system stand where a list says, all of them and no other
+-- the columns that are read off the staves of a system are where a list says, all of them and no others
 pub record HasColumns (staves : List Staff) (at : List ℤ) : Type 0 where
   pub set : All (Contains at) (anchors staves)
   pub read : All (Contains (anchors staves)) at

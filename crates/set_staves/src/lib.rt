@@ -1,5 +1,5 @@
-//! A system of called marks set on a page: each mark where its columns stand, each staff at
-//! its base, so that the ranks read off the page are those that were called for.
+//! A system of marks set on a page: each mark where its columns are, each staff at its base, so that the ranks read
+//! off the page are the ranks called for.
 #![tactic(auto)]
 
 pub mod marks;

@@ -9,7 +9,7 @@ use mus_units::{Memory, Row, Text};
 use ps_text::PageMark;
 use std::alloc::Global;
 
-/// Where the column of a rank stands.
+/// Returns where the column of a rank is.
 fn x_at(at: &[i64], rank: u32) -> i64
     requires { rank < length at.now }
     ensures { result ≡ x_at at.now rank }
@@ -17,7 +17,7 @@ fn x_at(at: &[i64], rank: u32) -> i64
     at[rank as usize]
 }
 
-/// Words as a page has them, where their text is one that can be printed.
+/// Returns words as a page has them, if their text can be printed.
 pub fn page_words(alloc: Global, text: &[u8]) -> Result<Text, Memory>
     requires { IsPrinted text.now }
     ensures value { IfOk result (λ words. words ≡ text.now) }
@@ -26,7 +26,7 @@ pub fn page_words(alloc: Global, text: &[u8]) -> Result<Text, Memory>
     Text::from_slice(alloc, text)
 }
 
-/// A mark where its columns stand, on a staff at `y`.
+/// Returns a mark where its columns are, on a staff at `y`.
 fn page_mark(alloc: Global, at: &[i64], y: i64, mark: &Mark) -> Result<PageMark, Memory>
     requires height { IsOnPage y }
     requires numbers { All IsOnPage at.now }
@@ -96,7 +96,7 @@ fn page_mark(alloc: Global, at: &[i64], y: i64, mark: &Mark) -> Result<PageMark,
     }
 }
 
-/// The marks of a staff at `y` where their columns stand.
+/// Returns the marks of a staff at `y` where their columns are.
 pub fn place_marks(
     alloc: Global,
     at: &[i64],

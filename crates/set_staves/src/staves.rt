@@ -9,7 +9,7 @@ use mus_units::{Memory, Row};
 use ps_text::Staff;
 use std::alloc::Global;
 
-/// The height of a base on the page.
+/// Returns the height of a base on the page.
 fn base_at(top: i64, base: i64) -> i64
     requires { IsBase top base }
     ensures value { result ≡ top +ℤ base }
@@ -18,7 +18,7 @@ fn base_at(top: i64, base: i64) -> i64
     top + base
 }
 
-/// A staff with its lowest line at `y`.
+/// Returns a staff with its lowest line at `y`.
 fn staff_for(alloc: Global, width: u32, at: &[i64], y: i64, s: &StaffMarks) -> Result<Staff, Memory>
     requires wide { IsWidth width }
     requires height { IsOnPage y }
@@ -33,7 +33,7 @@ fn staff_for(alloc: Global, width: u32, at: &[i64], y: i64, s: &StaffMarks) -> R
     Ok(Staff { y, width, marks })
 }
 
-/// Each staff at its base.
+/// Returns each staff at its base.
 pub fn staves_for(
     alloc: Global,
     width: u32,

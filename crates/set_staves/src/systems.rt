@@ -9,10 +9,9 @@ use mus_units::Memory;
 use ps_text::Item;
 use std::alloc::Global;
 
-/// A system as an item of a page: its staves are `width` u long, at their bases, which are
-/// counted from `top`, and each mark stands where `at` has the columns of its ranks. All are
-/// in u. `Memory` comes where memory ran out, and for nothing else: that the system can be shown
-/// and lies on the page is asked of the caller.
+/// Returns a system as an item of a page. Its staves are `width` u long, at their bases, which are counted from
+/// `top`, and each mark is where `at` has the columns of its ranks. All are in u. `Memory` means only that memory ran
+/// out: the caller guarantees that the system can be shown and lies on the page.
 pub fn system_item(
     alloc: Global,
     width: u32,
