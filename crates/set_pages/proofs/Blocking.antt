@@ -1,4 +1,4 @@
--- What the blocks of outcomes draw is ready to be drawn wherever they lie on a page.
+-- What the blocks of outcomes draw is ready wherever the blocks are on a page.
 use Rattle.std.proofs.Common.{ℕ, ◌^◌, ◌<◌, ◌≤◌, ℤ, pos, ◌-ℤ◌, ◌≤ℤ◌, Bool, List, [], ◌∷◌, ◌++◌, length, Option, Some}
 use Rattle.std.proofs.Common.{None, arith}
 use Rattle.std.proofs.lemmas.Int.{ints}
@@ -35,7 +35,7 @@ use Rattle.set_pages.proofs.Joined.{zip_append}
 abbrev IsCounted : Option ℕ → Type 0
 IsCounted begins = IfSome begins (λ k. 1 ≤ k)
 
--- what is laid out of a tune that is set
+-- the layout of a tune that is set
 pub result_laid : (paper : Paper) (t : SetTune)
     → IsGoodPaper paper → IsSetResult paper (Ok t) → AreLaid t.score (body_width paper) t.systems t.placed t.heights
 result_laid paper t good set =
@@ -43,7 +43,7 @@ result_laid paper t good set =
     tune_laid (body_width paper) t laid.score.good (heard_moved set.0 set.1 set.2 t.header t.score laid.score)
     (paper_narrow paper good) laid.layout
 
--- ---- blocks that are ready wherever they lie on a page
+-- ---- blocks that are ready wherever they are on a page
 pub columns_rise : (width count : ℕ) (at : List ℤ) → StandWithin width count at → RisesAlong at
 columns_rise width count at stand i inside = stand.rise i (omega (arith, inside, stand.count_is))
 
@@ -87,7 +87,7 @@ row_ready width height top row narrow at above good = record {
   printed = good.text;
 }
 
--- ---- a block for each thing that is drawn
+-- ---- a block for each drawing
 systems_ready : (s : Score) (width : ℕ) (begins : Option ℕ) (systems : List SystemMarks) (placed : List Placed)
     (heights : List Heights)
     → width < 2 ^ 20 → IsCounted begins

@@ -1,5 +1,5 @@
--- The blocks of tunes of which none has a group that is too tall have none together:
--- no block is tied to one of the next tune.
+-- If none of some tunes has a group that is too tall, their blocks together have none: no block is tied to one of the
+-- next tune.
 use Rattle.std.proofs.Common.{◌≡◌, refl, ap, ℕ, suc, Bool, true, false, not, List, [], ◌∷◌, ◌++◌, Option, None}
 use Rattle.std.specs.Prelude.{◌&&◌, nat_lt, Result, Ok, Err}
 use Rattle.abc_lines.specs.declared.fault.Fault.{Fault}

@@ -1,5 +1,5 @@
--- The systems of a tune that is laid out on a paper: each can be shown, its columns stand within the width, its boxes
--- stay apart and its staves stand under one another.
+-- The systems of a tune that is laid out on a paper: each can be shown, its columns are within the width, its boxes
+-- stay apart and its staves are under one another.
 use Rattle.std.proofs.Common.{ℕ, ◌*◌, ◌+◌, ◌-◌, ◌/◌, ◌^◌, ◌<◌, ◌≤◌, List, [], ◌∷◌, length, arith}
 use Rattle.std.specs.Prelude.{⊤, All}
 use Rattle.abc_fields.specs.declared.paper.Paper.{Paper}

@@ -1,4 +1,4 @@
--- The items of each page are good and in order: a title stands only in the block that begins a tune.
+-- The items of each page are good and in order: only a block that begins a tune has a title.
 use Rattle.std.proofs.Common.{ℕ, zero, suc, ℤ, Bool, true, false, cond, List, [], ◌∷◌, ◌++◌, map, Option, Some, None}
 use Rattle.std.proofs.lemmas.List.Elements.{All-append, All-cons, All-head, All-nil, All-tail}
 use Rattle.std.specs.Prelude.{◌==◌, ⊤, All, Result, Ok, Err}
@@ -19,7 +19,7 @@ use Rattle.set_pages.specs.Drawings.{title_contents, tune_items}
 use Rattle.set_pages.specs.Ready.{IsDrawnInRange}
 use Rattle.set_pages.specs.Sheet.{items_on, pages_from}
 
--- each may stand behind any item
+-- each may follow any item
 abbrev pub BeginsFree : List Item → Type 0
 BeginsFree [] = ⊤
 BeginsFree (j ∷ rest) = (i : Item) → IsAfter i j

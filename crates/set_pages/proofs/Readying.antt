@@ -1,5 +1,5 @@
--- What is set on a paper: a placement and good heights for each system of a tune,
--- and no group that is higher than the page.
+-- A tune set on a paper: a placement and good heights for each of its systems, and no group that is higher than the
+-- page.
 use Rattle.std.proofs.Common.{◌≡◌, ◌∙◌, refl, sym, ℕ, suc, ◌≤◌, true, false, if◌then◌else◌, List, [], ◌∷◌, length, None}
 use Rattle.std.proofs.Common.{arith}
 use Rattle.std.proofs.lemmas.List.Elements.{All-cons, All-head, All-nil, All-tail, All-weaker}

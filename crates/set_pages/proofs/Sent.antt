@@ -1,4 +1,4 @@
--- The outcome of a tune may cross to another thread with the places of its blocks, too.
+-- The outcome of a tune with the places of its blocks may move to another thread, too.
 use denote.Param.Send.{IsSend, sendable}
 use denote.Param.SendFields.{declared_send}
 use Rattle.set_book.proofs.Sent.{outcome_send, row, row_send}

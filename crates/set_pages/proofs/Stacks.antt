@@ -38,8 +38,8 @@ lie_between : (shift top bottom high base : ℤ) (staff : StaffMarks)
 lie_between shift top bottom high base staff at under below above =
     record { above = omega (arith, ints); below = omega (arith, ints) }
 
--- what stacked staves are: their bottom lies under their top, and each base between both, in their system and wherever
--- that stands on a page
+-- facts of stacked staves: their bottom lies under their top, and each base between both, in their system and
+-- wherever it is on a page
 pub record LieStacked (top bottom : ℤ) (gaps : List ℕ) (staves : List StaffMarks) (bases : List ℤ) : Type 0 where
   pub low : bottom ≤ℤ top
   pub count : length bases ≡ length staves

@@ -1,4 +1,5 @@
--- Blocks that fill pages: their pages rise by one at most, their tops lie on the page, and there is a drawing for each.
+-- Blocks that fill pages: their pages rise by at most one, their tops lie on the page, and there is a drawing for
+-- each.
 use Rattle.std.proofs.Common.{◌≡◌, refl, ap, inl, inr, ℕ, suc, ◌+◌, ◌^◌, ◌≤◌, ℤ, pos, ◌-ℤ◌, ◌≤ℤ◌, Bool, List, [], ◌∷◌}
 use Rattle.std.proofs.Common.{◌++◌, length, Option, Some, None, arith}
 use Rattle.std.proofs.lemmas.Int.{ints}
@@ -23,7 +24,7 @@ use Rattle.set_pages.specs.Drawings.{Content, Drawing, all_blocks, all_drawings,
 use Rattle.set_pages.specs.Drawings.{result_drawings, system_contents, systems_of, title_contents}
 use Rattle.set_pages.specs.Ready.{AreRising, AreRisingFrom, HasAllRows, IsReady, IsReadyOn, IsWhole, IsWholeResult}
 
--- pages rise by one at most
+-- pages rise by at most one
 rising_from : (high : ℕ) (block : Block) (blocks : List Block) (spot : Spot) (spots : List Spot)
     → AreWithin high (block ∷ blocks) (spot ∷ spots) → ComeBehind high (block ∷ blocks) (spot ∷ spots)
     → AreRisingFrom spot.page spots
@@ -99,7 +100,7 @@ all_count (o ∷ outcomes) whole =
     let more = all_count outcomes (All-tail IsWhole o outcomes whole) in
     simp length-append (omega arith)
 
--- drawings that are ready wherever their blocks lie on a page are ready at their spots
+-- drawings that are ready wherever their blocks are on a page are ready at their spots
 pub ready_at : (high : ℕ) (ds : List Drawing) (blocks : List Block) (spots : List Spot)
     → high ≤ 2 ^ 39 → AreGoodBlocks blocks → AllZip IsReadyOn ds blocks → AreWithin high blocks spots
     → AllZip IsReady ds spots

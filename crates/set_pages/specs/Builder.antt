@@ -1,5 +1,5 @@
--- A book while its tunes are set, one list of outcomes after another: where their blocks stand,
--- and the text that they add.
+-- A book while its tunes are set, one list of outcomes after another: where their blocks are, and the text that they
+-- add.
 use Rattle.std.specs.Prelude.{◌≡◌, ⊤, ℕ, ◌+◌, ◌^◌, ◌<◌, ◌≤◌, List, ◌++◌, Option, None, All, flat_map, length, take}
 use Rattle.std.specs.Prelude.{drop}
 use Rattle.std.specs.List.{AllZip}
@@ -21,16 +21,16 @@ use Rattle.ps_text.specs.Range.{IsSheet}
 use Rattle.set_staves.specs.Drawn.{IsWidth}
 use Rattle.set_book.specs.declared.outcome.Outcome.{Outcome}
 
--- nothing was pressed yet
+-- nothing was added yet
 abbrev pub empty_builder : PageBuilder
 empty_builder = record { begun = 0; behind = None; put = 0 }
 
--- the last of the blocks that were filled
+-- the last of the filled blocks
 abbrev pub last_block_by : PagePlan → Paper → List Outcome → Option PlacedBlock
 last_block_by PagePlan.Filled paper outcomes = behind_after (body_height paper) None (all_blocks outcomes)
 last_block_by (PagePlan.At spots) paper outcomes = None
 
--- where more blocks stand, behind those that were pressed, and the last of them
+-- where more blocks go, after those that were added, and the last of them
 abbrev pub next_spots : PagePlan → ℕ → PageBuilder → List Block → List Spot
 next_spots PagePlan.Filled high p blocks = spots_behind high p.behind blocks
 next_spots (PagePlan.At spots) high p blocks = take (length blocks) (drop p.put spots)
@@ -39,7 +39,7 @@ abbrev pub next_last_block : PagePlan → ℕ → PageBuilder → List Block →
 next_last_block PagePlan.Filled high p blocks = behind_after high p.behind blocks
 next_last_block (PagePlan.At spots) high p blocks = None
 
--- the plan has room for more blocks: they lie on the pages that it says
+-- the plan has room for more blocks: they are on the pages that it says
 abbrev pub HasRoom : PagePlan → ℕ → PageBuilder → List Block → Type 0
 HasRoom PagePlan.Filled high p blocks = ⊤
 HasRoom (PagePlan.At spots) high p blocks =
@@ -50,7 +50,7 @@ abbrev pub RisesBy : PagePlan → Type 0
 RisesBy PagePlan.Filled = ⊤
 RisesBy (PagePlan.At spots) = AreRising spots
 
--- others may be pressed behind the last block
+-- others may be added after the last block
 abbrev pub CanGoOn : PageBuilder → Type 0
 CanGoOn p = CanFollow p.behind
 
@@ -59,8 +59,8 @@ unfoldable pub begun_text : PagePlan → Paper → List Outcome → List ℕ
 begun_text plan paper outcomes =
     drawings_text (body_width paper) 0 (all_drawings outcomes) (all_spots plan paper outcomes)
 
--- these outcomes were pressed: each is set on the paper, its blocks are drawn where they stand, and it is known how
--- many pages were begun and which block was the last
+-- these outcomes were added: each is set on the paper, its blocks are drawn at their spots, and it is known how many
+-- pages were begun and which block was the last
 pub record IsBuiltFrom (plan : PagePlan) (paper : Paper) (outcomes : List Outcome) (p : PageBuilder) : Type 0 where
   pub rises : RisesBy plan
   pub set : All (IsSetUnder paper) outcomes
@@ -71,13 +71,13 @@ pub record IsBuiltFrom (plan : PagePlan) (paper : Paper) (outcomes : List Outcom
   pub drawn : AllZip (IsDrawnInRange (body_width paper)) (all_drawings outcomes) (all_spots plan paper outcomes)
   pub good : AreGoodBlocks (all_blocks outcomes)
 
--- outcomes were pressed behind others, and this is the text that they add
+-- outcomes were added after others, and this is the text that they add
 pub record AddsOutcomes (plan : PagePlan) (paper : Paper) (before outcomes : List Outcome) (text : List ℕ)
     (p : PageBuilder) : Type 0 where
   pub pressed : IsBuiltFrom plan paper (before ++ outcomes) p
   pub adds : begun_text plan paper (before ++ outcomes) ≡ begun_text plan paper before ++ text
 
--- what came of a tune can be drawn where its blocks stand, on staves so long
+-- the outcome of a tune can be drawn at the spots of its blocks, on staves of this length
 pub record CanDrawOutcome (width : ℕ) (s : PlacedOutcome) : Type 0 where
   pub wide : IsWidth width
   pub whole : IsWhole s.outcome
@@ -86,7 +86,7 @@ pub record CanDrawOutcome (width : ℕ) (s : PlacedOutcome) : Type 0 where
 abbrev pub AreDrawnInRange : ℕ → PlacedOutcome → Type 0
 AreDrawnInRange width s = AllZip (IsDrawnInRange width) (outcome_drawings s.outcome) s.spots
 
--- this is the text of what came of a tune
+-- this is the text of the outcome of a tune
 pub record IsTextOfOutcome (width : ℕ) (s : PlacedOutcome) (text : List ℕ) : Type 0 where
   pub value : text ≡ placed_text width s
   pub drawn : AreDrawnInRange width s
@@ -97,7 +97,7 @@ WillAdd plan paper before outcomes placed p =
     (texts : List (List ℕ)) → AllZip (IsTextOfOutcome (body_width paper)) placed texts
     → AddsOutcomes plan paper before outcomes (flat_map (λ text. text) texts) p
 
--- outcomes whose blocks stand at these spots, behind so many pages that are begun
+-- outcomes with the spots of their blocks, after this number of begun pages
 pub record AreOutcomesAt (begun : ℕ) (outcomes : List Outcome) (spots : List Spot)
     (stood : List PlacedOutcome) : Type 0 where
   pub ready : (width : ℕ) → IsWidth width → All (CanDrawOutcome width) stood
@@ -105,7 +105,7 @@ pub record AreOutcomesAt (begun : ℕ) (outcomes : List Outcome) (spots : List S
   pub drawn : (width : ℕ)
       → All (AreDrawnInRange width) stood → AllZip (IsDrawnInRange width) (all_drawings outcomes) spots
 
--- the pages of these outcomes are so many, and have this text
+-- this is the number of pages of these outcomes, and this their text
 pub record HasText (plan : PagePlan) (paper : Paper) (outcomes : List Outcome) (begun : ℕ) : Type 0 where
   pub count : length (sheet_of plan paper outcomes).pages ≡ begun
   pub text : numbered document_page 1 (sheet_of plan paper outcomes).pages
@@ -116,7 +116,7 @@ pub record IsSheetOf (plan : PagePlan) (paper : Paper) (outcomes : List Outcome)
   pub good : IsSheet (sheet_of plan paper outcomes)
   pub has : HasText plan paper outcomes begun
 
--- each block lies on its page as the plan says, and a reader finds there what the scores call for
+-- each block is on its page as the plan says, and a reader finds there what the scores call for
 pub record StandShown (plan : PagePlan) (paper : Paper) (outcomes : List Outcome) : Type 0 where
   pub stand : AreStanding plan paper outcomes
   pub shown : ShowsBook paper outcomes (sheet_of plan paper outcomes)

@@ -12,13 +12,13 @@ use Rattle.set_tune.specs.Blocks.{blocks_of}
 use Rattle.set_book.specs.declared.outcome.Outcome.{Outcome}
 use Rattle.set_staves.specs.Marks.{system_at}
 
--- the rows of a title block; or a system, where its columns stand,
--- and how far the bases of its staves lie above its top
+-- the rows of a title block; or a system, the places of its columns, and how far the bases of its staves lie above
+-- its top
 pub data Content : Type 0 where
   title : List TitleRow → Content
   system : SystemMarks → List ℤ → List ℤ → Content
 
--- a block as it is drawn: the ordinal of the tune that it begins, where it begins one, and what it has
+-- a block as it is drawn: the ordinal of the tune that it begins, if it begins one, and its contents
 pub record Drawing : Type 0 where
   pub begins : Option ℕ
   pub content : Content
@@ -26,7 +26,7 @@ pub record Drawing : Type 0 where
 abbrev pub drawing : Option ℕ → Content → Drawing
 drawing begins content = record { begins = begins; content = content }
 
--- a row begins at its x, and its base line lies so far below the top of its block
+-- a row begins at its x, with its base line `down` below the top of its block
 abbrev pub title_item_at : ℤ → TitleRow → Item
 title_item_at top row = Item.Title row.x (top -ℤ row.down) row.size row.text
 
@@ -42,7 +42,7 @@ tune_items (Some ordinal) = Item.Tune ordinal ∷ []
 abbrev pub drawn : ℕ → ℤ → Drawing → List Item
 drawn width top d = tune_items d.begins ++ content_items width top d.content
 
--- a title block stands only where it has a row
+-- a title block exists only if it has a row
 abbrev pub title_contents : List TitleRow → List Content
 title_contents [] = []
 title_contents (row ∷ rows) = title (row ∷ rows) ∷ []
@@ -55,7 +55,7 @@ system_contents _ _ _ = []
 abbrev pub systems_of : SetTune → List Content
 systems_of t = system_contents t.systems t.placed t.heights
 
--- what the blocks of a tune have, in the order of the blocks
+-- the contents of the blocks of a tune, in the order of the blocks
 abbrev pub contents_of : SetTune → List Content
 contents_of t = title_contents t.title.rows ++ systems_of t
 

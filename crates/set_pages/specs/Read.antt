@@ -1,5 +1,5 @@
--- What a reader finds on the pages of a book: its tunes one after another,
--- and in each of their systems what the score calls for.
+-- What a reader finds on the pages of a book: its tunes one after another, and in each of their systems what the
+-- score calls for.
 use Rattle.std.specs.Prelude.{◌≡◌, ⊤, ℕ, ℤ, pos, List, [], ◌∷◌, ◌++◌, All, map, flat_map, Result, Ok, Err}
 use Rattle.std.specs.List.{AllZip}
 use Rattle.abc_lines.specs.declared.fault.Fault.{Fault}
@@ -18,13 +18,13 @@ use Rattle.set_tune.specs.declared.tune.SetTune.{SetTune}
 use Rattle.set_book.specs.declared.outcome.Outcome.{Outcome}
 use Rattle.{set_staves.specs.Marks.{HasColumns, ShowsCall}, set_pages.specs.{Clear.AreUnder, Sheet.paper_frame}}
 
--- all that stands on the pages of a sheet, in order
+-- all items on the pages of a sheet, in order
 abbrev pub items_of_pages : List Page → List Item
 items_of_pages pages = flat_map (λ (p : Page). p.items) pages
 
--- What is read of measures a to b - 1: the ranks read off each staff are the marks that the score calls for, each once,
--- no other, and at its height; the columns stand where they are set; the staves are as wide as the body; boxes of one
--- lane in different columns keep apart, and so do staves, which lie on the page.
+-- What is read for measures a to b - 1: the ranks read off each staff are the marks that the score calls for, each
+-- once, no others, and at its height. The columns are where they are set, and the staves are as wide as the body.
+-- Boxes of one lane in different columns keep apart, and so do staves, which lie on the page.
 pub record ShowsSystem (paper : Paper) (gaps : List ℕ) (a b : ℕ) (m : SystemMarks) (p : Placed)
     (item : Item) : Type 0 where
   pub staves : List Staff
@@ -47,7 +47,7 @@ pub record ShowsRow (row : TitleRow) (item : Item) : Type 0 where
   pub base : ℤ
   pub title : item ≡ Item.Title row.x base row.size row.text
 
--- the first item of a tune stands behind its ordinal; a tune without an item has none
+-- the first item of a tune follows its ordinal; a tune without an item has none
 abbrev pub begun : ℕ → List Item → List Item
 begun ordinal [] = []
 begun ordinal (item ∷ items) = Item.Tune ordinal ∷ item ∷ items
@@ -68,7 +68,7 @@ ShowsResult paper ordinal (Err fault) items = items ≡ []
 abbrev pub ShowsOutcome : Paper → Outcome → List Item → Type 0
 ShowsOutcome paper o items = ShowsResult paper o.ordinal o.result items
 
--- the items on all pages are those of the tunes, in order, and nothing else stands there
+-- the items on all pages are those of the tunes, in order, and there are no others
 pub record ShowsBook (paper : Paper) (outcomes : List Outcome) (sheet : Sheet) : Type 0 where
   pub frame : sheet.frame ≡ paper_frame paper
   pub parts : List (List Item)

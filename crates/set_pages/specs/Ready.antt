@@ -1,4 +1,4 @@
--- What is asked of a block before it is drawn, and what a drawn one is.
+-- The conditions on a block before it is drawn, and the properties of a drawn one.
 use Rattle.std.specs.Prelude.{◌≡◌, ◌⊎◌, ⊤, ℕ, suc, ◌≤◌, ℤ, pos, ◌-ℤ◌, ◌≤ℤ◌, List, [], ◌∷◌, All, IfSome, length, Result}
 use Rattle.std.specs.Prelude.{Ok, Err}
 use Rattle.abc_lines.specs.declared.fault.Fault.{Fault}
@@ -22,8 +22,8 @@ pub record IsReadyRow (top : ℤ) (row : TitleRow) : Type 0 where
   pub base : IsNumber (top -ℤ row.down)
   pub printed : IsPrinted row.text
 
--- a system whose top is at a height: its marks can be shown, a column for each of its keys stands on the page, and a
--- base for each staff
+-- a system whose top is at a height: its marks can be shown, each of its keys has a column on the page, and each
+-- staff a base
 pub record CanStandOnPage (top : ℤ) (m : SystemMarks) (columns staves : List ℤ) : Type 0 where
   pub shown : IsShown m
   pub count : length columns ≡ length m.keys
@@ -46,7 +46,7 @@ pub record IsReadyAt (top : ℤ) (d : Drawing) : Type 0 where
 abbrev pub IsReady : Drawing → Spot → Type 0
 IsReady d s = IsReadyAt s.top d
 
--- what a block draws is ready wherever the block lies on a page
+-- what a block draws is ready wherever the block is on a page
 abbrev pub IsReadyOn : Drawing → Block → Type 0
 IsReadyOn d block = (top : ℤ) → IsTop top → pos 0 ≤ℤ (top -ℤ block.height) → IsReadyAt top d
 
@@ -63,7 +63,7 @@ IsWholeResult (Err fault) = ⊤
 abbrev pub IsWhole : Outcome → Type 0
 IsWhole o = IsWholeResult o.result
 
--- the pages of spots rise by one at most, from a page on
+-- from a page on, the pages of spots rise by at most one
 abbrev pub AreRisingFrom : ℕ → List Spot → Type 0
 AreRisingFrom page [] = ⊤
 AreRisingFrom page (s ∷ spots) = ((s.page ≡ page) ⊎ (s.page ≡ suc page)) × AreRisingFrom s.page spots
@@ -73,6 +73,6 @@ abbrev pub AreRising : List Spot → Type 0
 AreRising [] = ⊤
 AreRising (s ∷ spots) = (s.page ≡ 0) × AreRisingFrom s.page spots
 
--- what a block draws may stand on a page
+-- what a block draws may be placed on a page
 abbrev pub IsDrawnInRange : ℕ → Drawing → Spot → Type 0
 IsDrawnInRange width d s = All IsItem (drawn width s.top d)

@@ -1,5 +1,5 @@
--- The sheet of a book, from the outcomes of its tunes: the blocks of all tunes without fault stand on pages, filled or
--- where a plan says, and each page has what its blocks draw.
+-- The sheet of a book, from the outcomes of its tunes: the blocks of all tunes without fault are placed on pages,
+-- filled or where a plan says, and each page has what its blocks draw.
 use Rattle.std.specs.Prelude.{⊤, ℕ, zero, suc, ◌+◌, ◌/◌, ◌≤◌, ◌==◌, if◌then◌else◌, List, [], ◌∷◌, ◌++◌, Result, Ok, Err}
 use Rattle.std.specs.Prelude.{Bool, true, false, ◌≡◌, take, length}
 use Rattle.abc_lines.specs.declared.book.TuneText.{TuneText}
@@ -40,13 +40,13 @@ items_on width page (d ∷ drawings) (s ∷ spots) =
     (if s.page == page then drawn width s.top d else []) ++ items_on width page drawings spots
 items_on width page _ _ = []
 
--- so many pages, the first of which is counted k
+-- this number of pages, the first of which is counted k
 abbrev pub pages_from : ℕ → List Drawing → List Spot → ℕ → ℕ → List Page
 pages_from width drawings spots k zero = []
 pages_from width drawings spots k (suc more) =
     record { items = items_on width k drawings spots } ∷ pages_from width drawings spots (suc k) more
 
--- the pages are those up to that of the last block
+-- the pages are those up to the page of the last block
 abbrev pub page_count : List Spot → ℕ
 page_count [] = 0
 page_count (s ∷ []) = suc s.page
@@ -55,7 +55,7 @@ page_count (s ∷ next ∷ spots) = page_count (next ∷ spots)
 abbrev pub pages_of : ℕ → List Drawing → List Spot → List Page
 pages_of width drawings spots = pages_from width drawings spots 0 (page_count spots)
 
--- where all blocks stand: filled one under another, or where the plan says
+-- where all blocks are: filled one under another, or where the plan says
 abbrev pub all_spots : PagePlan → Paper → List Outcome → List Spot
 all_spots PagePlan.Filled paper outcomes = spots_of (body_height paper) (all_blocks outcomes)
 all_spots (PagePlan.At spots) paper outcomes = take (length (all_blocks outcomes)) spots
@@ -66,20 +66,20 @@ sheet_of plan paper outcomes = record {
   pages = pages_of (body_width paper) (all_drawings outcomes) (all_spots plan paper outcomes);
 }
 
--- where blocks are filled, each follows the one before it as near as it can
+-- if blocks are filled, each follows the one before it as closely as it can
 abbrev pub AreFilledBy : PagePlan → Paper → List Outcome → Type 0
 AreFilledBy PagePlan.Filled paper outcomes =
     AreFilled (body_height paper) (all_blocks outcomes) (all_spots PagePlan.Filled paper outcomes)
 AreFilledBy (PagePlan.At spots) paper outcomes = ⊤
 
--- each block lies on its page, 1500 under the one before it or at the top of the next page
+-- each block is on its page, 1500 under the one before it or at the top of the next page
 pub record AreStanding (plan : PagePlan) (paper : Paper) (outcomes : List Outcome) : Type 0 where
   pub within : AreWithin (body_height paper) (all_blocks outcomes) (all_spots plan paper outcomes)
   pub stacked : StandByPages (body_height paper) (all_blocks outcomes) (all_spots plan paper outcomes)
   pub filled : AreFilledBy plan paper outcomes
 
--- The plan of a book: its blocks are filled; or evenly parted, so that no other parting of their groups into pages that
--- fit costs less.
+-- The plan of a book: its blocks are filled; or evenly divided, so that no other division of their groups into pages
+-- that fit costs less.
 pub record IsEvenPlan (paper : Paper) (outcomes : List Outcome) (spots : List Spot) : Type 0 where
   pub chosen : AreSpots true (body_height paper) (all_blocks outcomes) spots
   pub within : AreWithin (body_height paper) (all_blocks outcomes) spots
@@ -96,7 +96,7 @@ IsSetResult paper (Ok t) =
     (tune : TuneText) × (defaults : Defaults) × (manner : Manner) × IsSetTune tune (terms_by defaults paper manner) t
 IsSetResult paper (Err fault) = ⊤
 
--- under its ordinal in the book, which is counted from 1
+-- with its ordinal in the book, which is counted from 1
 pub record IsSetUnder (paper : Paper) (o : Outcome) : Type 0 where
   pub result : IsSetResult paper o.result
   pub ordinal : 1 ≤ o.ordinal

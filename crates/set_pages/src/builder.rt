@@ -21,8 +21,9 @@ use mus_units::{Memory, Row, Text};
 use set_book::Outcome;
 use std::alloc::Global;
 
-/// A book while its tunes are set, one list of outcomes after another: how many of its pages were begun, the last block
-/// with its place where blocks are filled, and how many blocks there were. What was set isn't kept once it is pressed.
+/// The pages of a book as its tunes are set, one list of outcomes after another: how many of its pages were begun,
+/// the last block with its place if blocks are filled, and how many blocks there were. A set tune isn't kept once it
+/// is added.
 #[derive(Drop)]
 pub struct PageBuilder {
     pub begun: u32,
@@ -51,7 +52,7 @@ pub fn new_builder() -> PageBuilder
     }
 }
 
-/// Where more blocks stand by a plan, and the last of them where they are filled.
+/// Returns where more blocks go by a plan, and the last block if they are filled.
 fn place_blocks(
     alloc: Global,
     high: u32,
@@ -81,7 +82,7 @@ fn place_blocks(
     }
 }
 
-/// How many pages are begun once blocks stand behind so many.
+/// Returns how many pages are begun once blocks are placed after those.
 #[tactic(auto, using(crate::proofs::Texts::last_begun, crate::proofs::Texts::none_begun))]
 fn begun_after(begun: u32, spots: &[Spot]) -> Result<u32, Memory>
     ensures value { IfOk result (λ n. n ≡ begun_after begun spots.now) }
@@ -96,7 +97,7 @@ fn begun_after(begun: u32, spots: &[Spot]) -> Result<u32, Memory>
     Ok(last.page + 1)
 }
 
-/// Outcomes, each with those of the spots where its blocks stand.
+/// Returns outcomes, each with the spots of its own blocks.
 fn place_outcomes(
     alloc: Global,
     begun: u32,
@@ -124,7 +125,7 @@ fn place_outcomes(
     Ok(stood)
 }
 
-/// The making of the text of placed outcomes, on pages whose body has this width.
+/// A writer of the text of placed outcomes, on pages whose body has this width.
 #[derive(Drop)]
 pub struct OutcomeWriter {
     pub alloc: Global,
@@ -132,7 +133,7 @@ pub struct OutcomeWriter {
 }
 
 impl OutcomeWriter {
-    /// Returns the making of text on a paper.
+    /// Returns the writer for a paper.
     pub fn on(alloc: Global, paper: &Paper) -> OutcomeWriter
         requires { IsGoodPaper paper.now }
         ensures { result.width ≡ body_width paper.now }
@@ -161,12 +162,12 @@ impl Work<PlacedOutcome, Text> for OutcomeWriter {
     }
 }
 
-/// Places outcomes after those that were added, and returns them with the places of their blocks, of which
-/// `OutcomeWriter` makes the text that they add to the document: the blocks of the tunes without fault are on pages by
-/// the plan, in order; before the first block of a tune comes its ordinal, and where a block begins a page, the page
-/// before it ends.
+/// Places outcomes after those that were added, and returns them with the places of their blocks. `OutcomeWriter`
+/// makes from these the text that they add to the document. The blocks of the tunes without fault are placed on pages
+/// by the plan, in order. The tune's ordinal comes before the first block of a tune; if a block begins a page, the
+/// page before it ends.
 ///
-/// `Memory` comes if memory runs out; 2^32 pages or more count as that too.
+/// Errors: `Memory` if memory runs out, or if there are 2^32 pages or more.
 pub fn add_outcomes(
     alloc: Global,
     paper: &Paper,

@@ -8,18 +8,18 @@ use lay_pages::{Block, PageError, Spot, fill_even};
 use mus_units::{Memory, Row};
 use std::alloc::Global;
 
-/// Where the blocks of a book stand: filled one under another, as they come; or at these spots, one for
-/// each block of the book.
+/// Where the blocks of a book go: one under another, filled in their order; or at these spots, one for each block of
+/// the book.
 #[derive(Drop)]
 pub enum PagePlan {
     Filled,
     At(Row<Spot>),
 }
 
-/// The plan of a book with even pages, from the blocks of all its tunes: their groups are parted into
-/// pages so that no other parting into pages that fit costs less.
+/// Returns the plan of a book with even pages, from the blocks of all its tunes: their groups are divided into pages
+/// so that no other division into pages that fit costs less.
 ///
-/// `Memory` comes where memory ran out; 2^32 blocks or more count as past it.
+/// Errors: `Memory` if memory runs out, or if there are 2^32 blocks or more.
 pub fn even_plan(alloc: Global, paper: &Paper, blocks: &[Block]) -> Result<PagePlan, Memory>
     requires paper { IsGoodPaper paper.now }
     requires blocks { AreBlocksOn paper.now blocks.now }
