@@ -1,4 +1,4 @@
--- The columns that a listener finds on a staff of a page are those that the ranks of its marks tell.
+-- The columns that a listener finds on a staff of a page are determined by the ranks of its marks.
 use Rattle.std.proofs.lemmas.Bool.{cases_order}
 use Rattle.std.proofs.lemmas.Bool.Decides.{nat_tests}
 use Rattle.std.proofs.lemmas.Cmp.{int_cmp_total}
@@ -32,7 +32,7 @@ use Rattle.law_staff_columns.specs.Ranked.{tie_ends_at}
 use Rattle.set_staves.specs.Marks.{HasColumns, RisesAlong, called_mark, called_marks, x_at}
 use Rattle.law_book_sound.proofs.Telling.{column_alike}
 
--- ---- what marks tell at a rank, they tell as marks called for
+-- ---- marks say at a rank what they say as marks called for
 rank_test : (i r : ℕ) → int_eq (pos i) (pos r) ≡ (r == i)
 rank_test i r = grind (arith, ints, nat_tests)
 

@@ -1,4 +1,4 @@
--- Where each voice has a staff of its own, staff k of each system of a tune shows voice k, and together the systems
+-- If each voice has a staff of its own, staff k of each system of a tune shows voice k, and together the systems
 -- sound what the voice does.
 use Rattle.std.proofs.Common.{◌≡◌, refl, sym, ap, ap₂, ◌∙◌, subst, ℕ, zero, suc, ◌+◌, ◌-◌, ◌≤◌, ◌<◌, cond, List, []}
 use Rattle.std.proofs.Common.{◌∷◌, ◌++◌, length, map, take, drop, Some, None, arith}
@@ -56,7 +56,7 @@ parted_whole xs a (b ∷ bs) rises ends =
     ap (λ more. slice_range xs a b ++ more) (parted_whole xs b bs rises.1 ends)
     ∙ sym (drop_split xs a b (omega (arith, rises.0)))
 
--- what is carried along through measures is carried through some of them, and then through those behind them
+-- what is carried along through measures is carried through some of them, and then through those after them
 module _ {S : Type 0} (through : S → List Measure → S) (none : (now : S) → through now [] ≡ now)
     (one : (now : S) (m : Measure) (ms : List Measure) → through now (m ∷ ms) ≡ through (through now (m ∷ [])) ms) where
   through_join : (now : S) (ms more : List Measure) → through now (ms ++ more) ≡ through (through now ms) more
@@ -74,7 +74,7 @@ module _ {S : Type 0} (through : S → List Measure → S) (none : (now : S) →
       ∙ ap (through now) (take-add a (b - a) ms)
       ∙ through_join now (take a ms) (slice_range ms a b)
 
--- what is in force behind the first measures of a voice, and the heads of the event before
+-- what is in force after the first measures of a voice, and the heads of the event before
 abbrev now_at : Voice → ℕ → StaffState
 now_at v a = standing_through (standing_of v) (take a v.measures)
 
@@ -134,7 +134,7 @@ module _ (s : Score) (width : ℕ) (good : IsGoodScore s) (alone : AreAlone s) w
       subst (ShowsIn staves staves)
       (read.set.tilted.staves ∙ ap (map (marks_of a b staves read)) (alone_staves s.voices alone)) read.symbols
 
-  -- as many staves as voices, where there is a system
+  -- as many staves as voices, if there is a system
   count_staves : (a : ℕ) (breaks : List ℕ) (systems : List (List Staff))
       → AreRead s width a breaks systems
       → (most_staves systems ≤ length s.voices) × (1 ≤ length systems → most_staves systems ≡ length s.voices)

@@ -1,5 +1,5 @@
--- What marks tell at an abscissa is what their ranked forms tell at its rank,
--- where the rank tells the anchor from all others.
+-- What marks say at an abscissa is what their ranked forms say at its rank, if the rank distinguishes the anchor from
+-- all others.
 use Rattle.std.proofs.Common.{◌≡◌, refl, ap, ap₂, subst, List, [], ◌∷◌, ◌++◌, flat_map, ℤ, ◌-ℤ◌, Bool, Option, Some}
 use Rattle.std.proofs.Common.{None}
 use Rattle.std.proofs.lemmas.Option.{same_Some}
@@ -16,7 +16,7 @@ given : {A B : Type 0} (o : Option A) (f : A → Option B) (r : B) (P : Type 0)
 given None f r P e k = absurd cc
 given (Some z) f r P e k = k z refl e
 
--- the first marks tell at x what the others tell at z
+-- the first marks say at x what the others say at z
 abbrev AreAlike : ℤ → ℤ → List PageMark → List PageMark → Type 0
 AreAlike x z ms qs =
     (flat_map (glyphs_at x) ms ≡ flat_map (glyphs_at z) qs) × (flat_map (tie_at x) ms ≡ flat_map (tie_at z) qs)

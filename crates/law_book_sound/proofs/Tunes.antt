@@ -1,5 +1,5 @@
--- The tunes of the items of a book: one for each part that has an item,
--- and in it the systems of its breaking as they are read.
+-- The tunes of the items of a book: one for each part that has an item, and in it the systems of its breaking as they
+-- are read.
 use Rattle.std.proofs.Common.{◌≡◌, refl, sym, ap, ◌∙◌, subst, ℕ, ◌≤◌, ◌<◌, ℤ, List, [], ◌∷◌, ◌++◌, length, map}
 use Rattle.std.proofs.Common.{flat_map, arith}
 use Rattle.std.specs.Prelude.{⊤, Result, Ok, Err}
@@ -40,7 +40,7 @@ tunes_join (Item.Tune ordinal ∷ items) more none =
 tunes_join (Item.Title x y size text ∷ items) more none = tunes_join items more none
 tunes_join (Item.System a b staves ∷ items) more none = tunes_join items more none
 
--- ---- the part of a tune begins with it, where it has an item
+-- ---- the part of a tune begins with the tune, if it has an item
 begun_opens : (ordinal : ℕ) (items : List Item) → systems_till (begun ordinal items) ≡ []
 begun_opens ordinal [] = refl
 begun_opens ordinal (item ∷ items) = refl
@@ -69,7 +69,7 @@ parts_tunes paper (o ∷ outcomes) (part ∷ parts) shows =
     ∙ ap (λ more. tunes_of part ++ more) (parts_tunes paper outcomes parts shows.1)
 parts_tunes paper _ _ shows = absurd shows
 
--- it is one tune at most, and one where it has a system
+-- it is at most one tune, and exactly one if it has a system
 pub begun_once : (ordinal : ℕ) (items : List Item) → tunes_of items ≡ [] → length (tunes_of (begun ordinal items)) ≤ 1
 begun_once ordinal [] none = omega arith
 begun_once ordinal (item ∷ items) none = omega (arith, ap length none)
@@ -87,7 +87,7 @@ begun_one ordinal [] none some = absurd (omega (arith, some))
 begun_one ordinal (item ∷ items) none some =
     ap (λ parts. record { ordinal = ordinal; systems = systems_till (item ∷ items) } ∷ parts) none
 
--- ---- what passes over titles is read the same behind the rows of a title block
+-- ---- a reader that skips titles reads the same after the rows of a title block
 pub rows_before : {X : Type 0} (read : List Item → X)
     → ((row : TitleRow) (base : ℤ) (items : List Item)
     → read (Item.Title row.x base row.size row.text ∷ items) ≡ read items)
@@ -109,7 +109,7 @@ pub record AreReadAt (s : Score) (width a b : ℕ) (staves : List Staff) : Type 
   pub symbols : ShowsCall staves marks.staves
   pub columns : HasColumns staves placed.at
 
--- of each span of a breaking, the first of which begins at bar a
+-- for each span of a breaking, the first of which begins at bar a
 abbrev pub AreRead : Score → ℕ → ℕ → List ℕ → List (List Staff) → Type 0
 AreRead s width a [] [] = ⊤
 AreRead s width a (b ∷ breaks) (staves ∷ systems) = AreReadAt s width a b staves × AreRead s width b breaks systems

@@ -1,5 +1,5 @@
--- What a listener hears of the pages of a book: its tunes one after another,
--- and of each staff of a tune what its voice sounds.
+-- What a listener hears of the pages of a book: its tunes one after another, and for each staff of a tune what its
+-- voice sounds.
 use Rattle.std.specs.Prelude.{◌≡◌, ℕ, ◌≤◌, List, [], ◌∷◌, All, map, flat_map, length, Result, Ok, Err}
 use Rattle.std.specs.List.{AllByRecursion, AllZip}
 use Rattle.abc_lines.specs.declared.fault.Fault.{Fault}
@@ -16,7 +16,7 @@ use Rattle.ps_heard.specs.Tunes.{items_of, staves_heard, tunes_of}
 use Rattle.law_voice_sound.specs.Clear.{IsClearScore}
 use Rattle.law_voice_sound.specs.Sounds.{voice_heard}
 
--- each voice has a staff of its own, as where no line says that some share one
+-- each voice has a staff of its own, as it does if no line says that some share one
 abbrev pub AreAlone : Score → Type 0
 AreAlone s = All (λ v. v.seat ≡ Seat.Alone) s.voices
 
@@ -24,8 +24,8 @@ AreAlone s = All (λ v. v.seat ≡ Seat.Alone) s.voices
 abbrev pub Sounds : Score → SheetTune → Type 0
 Sounds s part = staves_heard s.spread part.systems ≡ map (voice_heard s.spread) s.voices
 
--- A tune without a fault is heard once at most, under its ordinal; a clear one, each of whose voices has a staff of its
--- own and that has a measure, is heard as its score sounds. How others sound isn't said.
+-- A tune without a fault is heard at most once, under its ordinal. A clear one that has a measure, and each of whose
+-- voices has a staff of its own, is heard as its score sounds. Nothing is claimed about how others sound.
 pub record SoundsTune (ordinal : ℕ) (t : SetTune) (parts : List SheetTune) : Type 0 where
   pub once : length parts ≤ 1
   pub ordinals : AllByRecursion (λ part. part.ordinal ≡ ordinal) parts

@@ -1,4 +1,4 @@
--- What the bridges of a voice tell at a rank: beams tell nothing, and no slur bulges as a tie does; a tie tells the
+-- What the bridges of a voice say at a rank: beams say nothing, and no slur bulges as a tie does; a tie gives the
 -- height of its last head.
 use Rattle.std.proofs.Common.{◌≡◌, refl, ap, ◌∙◌, ℕ, zero, suc, ◌+◌, List, [], ◌∷◌, ◌++◌, append-nil, Bool, true, false}
 use Rattle.std.proofs.Common.{◌&&◌, ◌||◌, cond, arith}
@@ -99,7 +99,7 @@ module _ (keys : List ColumnKey) (r : ℕ) where
       flat_map-map (λ l. tied_at r l.mark) (bridge_at keys) (bridges_of lengths a b v ++ [])
       ∙ simp (append-nil, flat_map-append, all_beams, all_graces, arcs_told lengths a b v.measures v.arcs)
 
--- ---- the height that a tie tells: it ends 400 from its head, which is in reach
+-- ---- the height that a tie gives: it ends 400 from its head, which is in reach
 tie_back : (up : Bool) (c : Clef) (h : Head) → IsInReach c h → beside_head up (dy_of c h) -ℤ tie_bulge up ≡ dy_of c h
 unfolding beside_head cut_dy dy_of steps_dy
 tie_back true c h near = omega (arith, ints, clamps, near.0, near.1)

@@ -1,5 +1,5 @@
--- Slots that rise tell a column each: the notes of what is drawn there, and the ties that end at its rank.
--- Other ranks tell nothing.
+-- Slots that rise give one column each: the notes of what is drawn there, and the ties that end at its rank. Other
+-- ranks say nothing.
 use Rattle.std.proofs.Common.{◌≡◌, ◌∙◌, refl, sym, ap, ℕ, zero, suc, ◌+◌, ◌-◌, ◌<◌, ◌≤◌, ◌==◌, ℤ, Bool, true, false}
 use Rattle.std.proofs.Common.{if◌then◌else◌, List, [], ◌∷◌, ◌++◌, length, map, arith}
 use Rattle.std.proofs.lemmas.Bool.{eq-eqb, ne_eqb}
@@ -27,11 +27,11 @@ use Rattle.law_staff_columns.proofs.Slots.{Slot, keys_of, laid, slot_laid}
 abbrev pub column : Bool → List HeardGlyph → List ℤ → HeardColumn
 column leads ns ts = record { leads = leads; notes = ns; ties = ts }
 
--- of a slot behind the head
+-- of a slot after the head
 abbrev pub slot_column : List ColumnKey → (ℕ → List ℤ) → Slot → HeardColumn
 slot_column keys ties s = column false (drawn_notes s.drawn) (ties (key_rank keys s.key))
 
--- ---- what is told
+-- ---- what is said
 pub told_same : (leads lead : Bool) (ns ms : List HeardGlyph) (ts us : List ℤ) (xs ys : List HeardColumn)
     → leads ≡ lead → ns ≡ ms → ts ≡ us → columns_heard xs ≡ columns_heard ys
     → columns_heard (column leads ns ts ∷ xs) ≡ columns_heard (column lead ms us ∷ ys)
@@ -56,7 +56,7 @@ drawn_tied : (r q : ℕ) (ds : List LaneInk) → tie_ends_at (map (drawn_at q) d
 drawn_tied r q [] = refl
 drawn_tied r q (d ∷ ds) = simp (ink_tied, drawn_tied r q ds)
 
--- beams and arcs tell no notes
+-- beams and arcs give no notes
 span_noted : (r p q : ℕ) (span : BridgeShape) → noted_at r (span_at p q span) ≡ []
 span_noted r p q span = grind arith
 
@@ -74,7 +74,7 @@ module _ (keys : List ColumnKey) where
       → notes_at (slot_laid keys s ++ more) r ≡ (if b then drawn_notes s.drawn else []) ++ notes_at more r
   first_noted r b s more e = simp (flat_map-append, drawn_noted, e)
 
-  -- slots behind a column tell nothing there
+  -- slots after a column say nothing there
   none_behind : (k : ColumnKey) (ss : List Slot) (r : ℕ)
       → Contains keys k → RiseFrom k (keys_of ss) → AreAmong (keys_of ss) keys → r ≤ key_rank keys k
       → notes_at (laid keys ss) r ≡ []
@@ -86,7 +86,7 @@ module _ (keys : List ColumnKey) where
       (among_right (s.key ∷ []) (keys_of ss) keys among) (omega (arith, less, low))
 
   module _ (all : List Laid) where
-    -- ranks that tell nothing are left out
+    -- ranks that say nothing are left out
     skip : (r q d n j : ℕ) → q ≡ r + d → n ≡ d + j → 1 ≤ r → ((x : ℕ) → r ≤ x → x < q → notes_at all x ≡ [])
         → columns_heard (columns_behind all r n) ≡ columns_heard (columns_behind all q j)
     skip r q zero n j e f some blank =
@@ -135,7 +135,7 @@ module _ (keys : List ColumnKey) where
           ∙ first_noted x false s (laid keys ss) (ne_eqb x q (λ e. omega (arith, from, e))))
           (omega (arith, most)))
 
-  -- a head of rank 0, and slots behind it
+  -- a head of rank 0, and slots after it
   pub ranks_told : (bs : List Bridge) (h : Slot) (ss : List Slot)
       → Contains keys h.key → key_rank keys h.key ≡ 0 → RiseFrom h.key (keys_of ss) → AreAmong (keys_of ss) keys
       → columns_heard (ranked_columns (length keys) (laid keys (h ∷ ss) ++ map (bridge_at keys) bs))

@@ -1,4 +1,4 @@
--- The drawn measures of a voice, tilted or not, come of the score's, and their events have columns in its system.
+-- The drawn measures of a voice, tilted or not, come from the score's, and their events have columns in its system.
 use Rattle.std.proofs.Common.{◌≡◌, Bool, refl, sym, ap, subst, ◌∙◌, zero, suc, ◌+◌, ◌≤◌, ◌<◌, ◌++◌, map, false, Some}
 use Rattle.std.proofs.Common.{arith}
 use Rattle.std.proofs.lemmas.List.{length-map}
@@ -158,7 +158,7 @@ module _ (keys : List ColumnKey) (a b : ℕ) where
             (λ k n e same. has (suc k) n e (omega (arith, same))),
       )
 
-  -- ---- ends are of no account
+  -- ---- ends do not matter
   events_kept : (now : StaffState) (es : List DrawnEvent) → EventsDrawn now (map flat_event es) → EventsDrawn now es
   events_kept now [] drawn = tt
   events_kept now (e ∷ es) drawn =

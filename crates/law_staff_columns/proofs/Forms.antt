@@ -1,4 +1,4 @@
--- What the parts of the proof say to one another: what ink tells, and drawn measures that come of the score's.
+-- The statements that the parts of the proof share: what ink says, and drawn measures that come from the score's.
 use Rattle.std.specs.Prelude.{⊤, ◌≡◌, ℕ, suc, ◌+◌, ◌≤◌, ◌<◌, ℤ, false, List, [], ◌∷◌, map, flat_map, Option, Some, None}
 use Rattle.std.specs.List.{All, AllByRecursion, Contains}
 use Rattle.mus_units.specs.declared.note.Head.{Head}
@@ -20,7 +20,7 @@ use Rattle.ps_heard.specs.Columns.{noted}
 use Rattle.ps_heard.specs.Roles.{role_of}
 use Rattle.law_voice_sound.specs.Columns.{state_shown}
 
--- what ink tells, wherever it stands
+-- what ink says, wherever it is
 abbrev pub ink_notes : Ink → List HeardGlyph
 ink_notes (Ink.Glyph glyph dx dy) = noted (role_of glyph dy) dy
 ink_notes _ = []
@@ -40,7 +40,7 @@ AreShifted [] dxs = ⊤
 AreShifted (h ∷ hs) [] = ⊥
 AreShifted (h ∷ hs) (dx ∷ dxs) = AreShifted hs dxs
 
--- an event drawn alone on its staff, behind what is in force
+-- an event drawn alone on its staff, after what is in force
 pub record IsDrawn (now : StaffState) (e : DrawnEvent) : Type 0 where
   pub first : is_lower e.seat ≡ false
   pub clef : e.clef ≡ clef_at now.clef e.flat.event
@@ -58,8 +58,8 @@ abbrev pub flats_in : List DrawnEvent → List Flat
 flats_in es = map (λ e. e.flat) es
 
 module _ (keys : List ColumnKey) (a b : ℕ) where
-  -- an event of measure m has at least this id and tick, a column in the system of measures a to b - 1, if it is there,
-  -- and heads in reach
+  -- an event of measure m has at least this id and tick, a column in the system of measures a to b - 1, if it is
+  -- there, and heads in reach
   pub record IsSeated (m least low : ℕ) (e : DrawnEvent) : Type 0 where
     pub id : least ≤ e.flat.event.id
     pub tick : low ≤ e.tick

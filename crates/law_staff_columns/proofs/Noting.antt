@@ -1,4 +1,4 @@
--- What the marks of each part tell.
+-- What the marks of each part say.
 use Rattle.std.proofs.Common.{◌≡◌, refl, ℕ, zero, suc, ◌+◌, ◌*◌, ◌++◌, arith}
 use Rattle.std.proofs.lemmas.Grind.{flat_map-append}
 use Rattle.std.proofs.lemmas.List.{append-nil}
@@ -48,7 +48,7 @@ use Rattle.mus_laid.specs.declared.drawn.LaneInk.{LaneInk}
 use Rattle.law_staff_columns.proofs.Forms.{AreShifted, AreSigned, drawn_notes, ink_notes}
 use Rattle.law_staff_columns.proofs.Signed.{signs_placed}
 
--- ---- parts that tell nothing
+-- ---- parts that say nothing
 ledgers_quiet : (dys : List ℤ) → drawn_notes (ledger_marks dys) ≡ []
 ledgers_quiet [] = refl
 ledgers_quiet (dy ∷ dys) = ledgers_quiet dys
@@ -89,7 +89,7 @@ meter_quiet : (dx : ℕ) (m : Option Meter) → drawn_notes (meter_if dx m) ≡ 
 unfolding meter_marks
 meter_quiet dx m = grind arith
 
--- a quiet glyph, if it is there
+-- a quiet glyph, if it is present
 end_quiet : (b : Bool) (g : Glyph) (end : ℤ) → noted (role_of g end) end ≡ [] → drawn_notes (at_end b g end) ≡ []
 end_quiet b g end quiet = grind (arith, quiet)
 

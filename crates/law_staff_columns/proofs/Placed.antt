@@ -1,5 +1,5 @@
--- The drawn events of a voice in a row, each in its measure: one stands before the next, they are found by their ids,
--- and those of a system have columns there.
+-- The drawn events of a voice in a row, each in its measure: each precedes the next, they are found by their ids, and
+-- those of a system have columns there.
 use Rattle.std.proofs.Common.{◌≡◌, refl, sym, ap, ◌∙◌, ℕ, suc, ◌+◌, ◌<◌, ◌≤◌, List, [], ◌∷◌, ◌++◌, true, cond, map}
 use Rattle.std.proofs.Common.{add-one, arith}
 use Rattle.std.proofs.lemmas.Bool.{eq-eqb, ne_eqb}
@@ -55,7 +55,7 @@ module _ (keys : List ColumnKey) (a b : ℕ) where
     pub column : a ≤ n.measure → n.measure < b → Contains keys (key n)
     pub near : AllByRecursion (IsInReach n.event.clef) (heads n)
 
-  -- each stands in a later column than the one before it, the first behind some key
+  -- each is in a later column than the one before it, the first after some key
   abbrev pub GoFrom : List DrawnMeasure → ColumnKey → List Placed → Type 0
   GoFrom ds k [] = ⊤
   GoFrom ds k (n ∷ ns) = (IsPlaced ds n × (is_below k (key n) ≡ true)) × GoFrom ds (key n) ns

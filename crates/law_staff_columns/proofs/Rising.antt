@@ -1,4 +1,4 @@
--- The columns of a voice rise, also where the ends of its stems are others.
+-- The columns of a voice rise, even if the ends of its stems differ.
 use Rattle.std.proofs.Common.{◌≡◌, ◌∙◌, refl, sym, ap, subst, ℕ, suc, ℤ, ◌+◌, ◌-◌, ◌<◌, ◌≤◌, ◌==◌, Bool, true, false}
 use Rattle.std.proofs.Common.{not, ◌&&◌, if◌then◌else◌, List, [], ◌∷◌, ◌++◌, append_assoc, length, map, drop, take}
 use Rattle.std.proofs.Common.{arith}
@@ -27,7 +27,7 @@ use Rattle.mus_marks.specs.Tilt.{voice_ended}
 use Rattle.mus_marks.proofs.Ending.{flat_event, flat_measure, flat_voice}
 use Rattle.law_staff_columns.proofs.Forms.{AreSeated, MeasuresDrawn}
 
--- each key is above that before it, the first above k
+-- each key is above the one before it, the first above k
 abbrev pub RiseFrom : ColumnKey → List ColumnKey → Type 0
 RiseFrom k [] = ⊤
 RiseFrom k (l ∷ ls) = (is_below k l ≡ true) × RiseFrom l ls
@@ -79,7 +79,7 @@ event_rises k m t false gs h =
     below_through k (key_at m t Class.Change 0) (key_at m t c 0) h (tick_below m t 0 0 Class.Change c more) in
     graces_rise k m t 0 gs (behind Class.Grace (omega arith)) (behind Class.Note (omega arith))
 
--- behind the head of the system, or behind an earlier measure
+-- after the head of the system, or after an earlier measure
 abbrev IsEarly : ColumnKey → ℕ → Type 0
 IsEarly k m = (t : ℕ) → (is_below k (key_at m t Class.Change 0) ≡ true) × (is_below k (key_at m t Class.Bar 0) ≡ true)
 
@@ -89,7 +89,7 @@ early a m c same classes t =
     class_below a m 0 t 0 0 c d (omega (arith, same)) (λ e. omega arith) (omega (arith, classes, more)) in
     (below Class.Change (omega arith), below Class.Bar (omega arith))
 
--- nothing stands before the head of a system
+-- nothing precedes the head of a system
 not_before : (a : ℕ) (k : ColumnKey) → a ≤ k.measure → is_below k (head_key a) ≡ false
 unfolding is_below
 not_before a k from = grind (arith, nat_tests, from)
@@ -136,7 +136,7 @@ module _ (keys : List ColumnKey) (lengths : List ℕ) (a b : ℕ) (places : All 
       (omega (arith, to)) drawn.1 (λ t. (late t Class.Change, late t Class.Bar)))
   measures_rise k m in_head now xs ds from to drawn low = absurd drawn
 
-  -- those of a voice behind the head
+  -- those of a voice after the head
   pub columns_rise : (first : Bar) (now : StaffState) (xs : List Measure) (ds : List DrawnMeasure)
       → a + length ds ≤ b → MeasuresDrawn keys a b a now xs ds
       → RiseFrom (head_key a) (first_keys a first ++ measures_columns lengths a true ds)
@@ -153,7 +153,7 @@ module _ (keys : List ColumnKey) (lengths : List ℕ) (a b : ℕ) (places : All 
       by false zero =
           measures_rise (head_key a) a true now xs ds (omega arith) to drawn (early a a Class.Head refl (omega arith))
 
--- ---- ends of stems are of no account
+-- ---- ends of stems do not matter
 events_flat : (m : ℕ) (in_head : Bool) (es : List DrawnEvent)
     → events_columns m in_head (map flat_event es) ≡ events_columns m in_head es
 events_flat m in_head [] = refl

@@ -1,5 +1,5 @@
--- What a voice alone on its staff draws, column by column: the key of each column, and what stands there. A change
--- without marks has no column.
+-- What a voice alone on its staff draws, column by column: the key of each column, and its contents. A change without
+-- marks has no column.
 use Rattle.std.proofs.Common.{◌≡◌, ◌∙◌, refl, sym, ap, ℕ, ◌+◌, ◌==◌, Bool, true, false, not, ◌&&◌, ◌||◌, nat_le}
 use Rattle.std.proofs.Common.{if◌then◌else◌, List, [], ◌∷◌, ◌++◌, append_assoc, length, map, Option, Some, None, arith}
 use Rattle.std.proofs.lemmas.Bool.{or_parts}
@@ -93,7 +93,7 @@ abbrev pub first_slots : ℕ → Bar → List Slot
 first_slots a first =
     if (a == 0) && has_features first then slot (key_at 0 0 Class.First 0) (bar_marks first) ∷ [] else []
 
--- behind the head
+-- after the head
 abbrev pub slots_behind : List ColumnKey → List ℕ → Option WordRoom → ℕ → Bar → List DrawnMeasure → List Slot
 slots_behind keys lengths place a first ds = first_slots a first ++ measures_slots keys lengths place a true ds
 

@@ -1,4 +1,4 @@
--- The marks of a voice in a system tell its columns.
+-- The marks of a voice in a system determine its columns.
 use Rattle.std.proofs.Common.{◌≡◌, ◌∙◌, refl, sym, ap, subst, ℕ, ℤ, ◌+◌, ◌-◌, ◌<◌, ◌≤◌, ◌==◌, Bool, true, false}
 use Rattle.std.proofs.Common.{if◌then◌else◌, List, [], ◌∷◌, ◌++◌, append_assoc, length, map, take, drop, Option, Some}
 use Rattle.std.proofs.Common.{arith}
@@ -67,7 +67,7 @@ use Rattle.law_staff_columns.proofs.Slots.{slots_keyed}
 use Rattle.law_staff_columns.proofs.Tied.{AllTied, ties_stand, tied_after}
 use Rattle.mus_time.specs.Columns as columns
 
--- where no head of a note is, ties are of no account
+-- if no note has a head, ties do not matter
 abbrev is_headed : List HeardGlyph → Bool
 is_headed ns = list_any (λ n. is_listed n.role) ns
 
@@ -98,7 +98,7 @@ bar_quiet : (b : Bar) → is_headed (bar_notes b) ≡ false
 unfolding bar_glyph
 bar_quiet b = grind arith
 
--- ---- the slots of a voice tell its columns
+-- ---- the slots of a voice determine its columns
 module _ (keys : List ColumnKey) (place : Option WordRoom) (ties : ℕ → List ℤ) where
   abbrev slot_columns : List Slot → List HeardColumn
   slot_columns ss = map (slot_column keys ties) ss
@@ -224,7 +224,7 @@ module _ (keys : List ColumnKey) (place : Option WordRoom) (ties : ℕ → List 
         (tied_after keys a b ties m prev d.events behind tied)))
     measures_told lengths m in_head now prev xs ds more from to drawn tied = absurd drawn
 
-    -- behind the head of a system
+    -- after the head of a system
     behind_told : (lengths : List ℕ) (first : Bar) (now : StaffState) (prev : List Head) (xs : List Measure)
         (ds more : List DrawnMeasure)
         → a + length ds ≤ b → MeasuresDrawn keys a b a now xs ds

@@ -1,4 +1,4 @@
--- In the column of each event of a voice just those ties end that come from the event before it.
+-- The ties that end in the column of each event of a voice are exactly those that come from the event before it.
 use Rattle.std.proofs.Common.{◌≡◌, refl, sym, ap, ◌∙◌, ℕ, zero, suc, ◌+◌, ◌-◌, ◌<◌, ◌≤◌, ◌==◌, List, [], ◌∷◌, ◌++◌}
 use Rattle.std.proofs.Common.{append-nil, Bool, true, false, ◌&&◌, inl, inr, map, take, drop, filter, subst, arith}
 use Rattle.std.proofs.lemmas.Bool.{and_parts, eq-eqb, le-leb, leb-false, leb-true, lt-leb, lt-ltb, ne_eqb}
@@ -44,7 +44,7 @@ use Rattle.law_staff_columns.proofs.Rising.{class_below}
 
 -- ---- in a row of events
 module _ (keys : List ColumnKey) (a b : ℕ) where
-  -- where, of a rank, ties end: in the column of each event of the system those that come from the event before it
+  -- where ties end at a rank: in the column of each event of the system those that come from the event before it
   abbrev pub AllTied : (ℕ → List ℤ) → List Head → List Placed → Type 0
   AllTied ties prev [] = ⊤
   AllTied ties prev (n ∷ ns) =
@@ -153,7 +153,7 @@ module _ (keys : List ColumnKey) (lengths : List ℕ) (a b : ℕ) (ds : List Dra
         is_tie_bulge up,
       ) refl)
 
-  -- the ties behind an event end behind it
+  -- the ties after an event end after it
   behind : (e p : Placed) (ns : List Placed)
       → IsEvent e → IsEvent p → IsIn e
       → ((k : ColumnKey) → is_below (key p) k ≡ true → is_below (key e) k ≡ true)

@@ -1,5 +1,5 @@
--- The columns of a staff as the ranks of its marks tell them: at each rank what the glyphs there tell, and where ties
--- end. The column of rank 0 leads its system.
+-- The columns of a staff as determined by the ranks of its marks: at each rank what the glyphs there say, and where
+-- ties end. The column of rank 0 leads its system.
 use Rattle.std.specs.Prelude.{ℕ, zero, suc, ℤ, ◌-ℤ◌, ◌==◌, ◌&&◌, if◌then◌else◌, List, [], ◌∷◌, flat_map}
 use Rattle.mus_laid.specs.declared.laid.Laid.{Laid}
 use Rattle.mus_laid.specs.declared.laid.Mark.{Mark}
@@ -26,7 +26,7 @@ tie_ends_at all r = flat_map (λ l. tied_at r l.mark) all
 abbrev pub rank_column : List Laid → ℕ → HeardColumn
 rank_column all r = record { leads = r == 0; notes = notes_at all r; ties = tie_ends_at all r }
 
--- so many columns, the first of which has rank r
+-- this number of columns, the first of which has rank r
 abbrev pub columns_behind : List Laid → ℕ → ℕ → List HeardColumn
 columns_behind all r zero = []
 columns_behind all r (suc n) = rank_column all r ∷ columns_behind all (suc r) n

@@ -1,4 +1,4 @@
--- The law that the marks of a voice tell its columns.
+-- The law that the marks of a voice determine its columns.
 use Rattle.std.specs.Prelude.{◌≡◌, ℕ, ℤ, ◌<◌, ◌≤◌, ◌==◌, if◌then◌else◌, List, [], ◌∷◌, length, take, slice_range}
 use Rattle.std.specs.Prelude.{Contains, Option, Some, None}
 use Rattle.mus_units.specs.declared.note.Bar.{Bar}
@@ -15,12 +15,12 @@ use Rattle.law_voice_sound.specs.Columns.{last_through, standing_through, heard_
 use Rattle.law_voice_sound.specs.Listened.{columns_heard}
 use Rattle.law_staff_columns.specs.Ranked.{ranked_columns}
 
--- the bar before measure a, where that is the first
+-- the bar before measure a, if that is the first
 abbrev pub first_at : ℕ → Bar → Option Bar
 first_at a bar = if a == 0 then Some bar else None
 
--- Measures a to b - 1 of a voice alone on its staff, over any abscissas:
--- what the ranks of its marks tell is what its columns tell.
+-- Measures a to b - 1 of a voice alone on its staff, over any abscissas: what the ranks of its marks say is what its
+-- columns say.
 abbrev pub MarksTellColumns : Type 0
 MarksTellColumns =
     (s : Score) (v : Voice) (keys : List ColumnKey) (at : List ℤ) (a b : ℕ)

@@ -1,5 +1,5 @@
-//! Laws of what marks tell: the marks of a voice that has a staff of its own, read by the ranks of
-//! their columns, tell a listener the columns of its score.
+//! Laws of what marks say: the marks of a voice that has a staff of its own, read by the ranks of their columns, give
+//! a listener the columns of its score.
 //!
-//! The crate has no code: its laws stand in `proofs`, and what they say in `specs`.
+//! The crate has no code: its laws are in `proofs`, their statements in `specs`.
 #![tactic(auto)]

@@ -1,4 +1,4 @@
--- What is read off the notes of a chord, where no two heads have one letter and octave.
+-- What is read off the notes of a chord whose heads all differ in letter or octave.
 use Rattle.std.proofs.Common.{◌≡◌, refl, ap, ◌∙◌, List, [], ◌∷◌, ◌++◌, true, false, ◌||◌, not}
 use Rattle.std.proofs.lemmas.Bool.{and_right, or_parts}
 use Rattle.std.proofs.lemmas.List.Folds.{list_any-append}
@@ -20,7 +20,7 @@ use Rattle.law_voice_sound.specs.Noted.{head_notes, note, sign_note, sign_notes}
 use Rattle.law_voice_sound.proofs.Pitches.{heights_apart, pitch_flip}
 use Rattle.law_voice_sound.proofs.Reaching.{AllReach}
 
--- what passes over a sign, and over a head, passes over those of a chord
+-- a function that skips a sign, and a head, skips those of a chord
 pub signs_passed : {A : Type 0} (f : List HeardGlyph → A)
     → ((a : Alter) (dy : ℤ) (ns : List HeardGlyph) → f (note (Role.Sign a) dy ∷ ns) ≡ f ns)
     → (c : Clef) (hs : List Head) (ns : List HeardGlyph)
@@ -49,7 +49,7 @@ chord_key role c (h ∷ hs) e =
     (ap not (signs_passed (list_any (λ n. is_head n.role)) (λ a dy ms. refl) c (h ∷ hs) (head_notes role c (h ∷ hs))
     ∙ ap (λ b. b || list_any (λ n. is_head n.role) (head_notes role c hs)) e))
 
--- ---- the sign at the height of a head is its own
+-- ---- the sign at the height of a head is the head's own
 skip_sign : (dy at : ℤ) (s : Option Alter) (xs ns : List HeardGlyph)
     → int_eq at dy ≡ false → sign_of_glyph dy ((sign_note at s ++ xs) ++ ns) ≡ sign_of_glyph dy (xs ++ ns)
 skip_sign dy at None xs ns e = refl

@@ -30,8 +30,8 @@ use Rattle.law_voice_sound.proofs.Openings.{head_law}
 use Rattle.law_voice_sound.proofs.Voices.{IsReady, bar_tells, behind_bar, events_law, first_law, said_through}
 use Rattle.law_voice_sound.proofs.Voices.{seen_or_left, sounds_join}
 
--- the sounds of a measure behind what was said, and of those behind it; where no note follows,
--- nothing depends on what was said
+-- the sounds of a measure after what was said, and of those after it; if no note follows, nothing depends on what was
+-- said
 abbrev sounds_behind : Spread
     → StaffState → List Head → List score.AlteredHead → List Flat → (List score.AlteredHead → List Sound) → List Sound
 sounds_behind spread now said before fs more =
@@ -76,7 +76,7 @@ AreHeard spread systems =
     → (hear_columns spread ear (systems_columns first now prev systems)).heard
     ≡ all ++ map heard_sound (measures_sounds 0 spread now before (joined systems))
 
--- the measures of a system, and the systems behind it
+-- the measures of a system, and the systems after it
 measures_law : (spread : Spread) (systems : List (List Measure)) → AreHeard spread systems
     → (in_head : Bool) (ear : Listener) (now : StaffState) (before : List score.AlteredHead) (prev : List Head)
     (all : List page.Heard) (ms : List Measure)

@@ -1,4 +1,4 @@
--- What a listener knows behind each column of a voice, by what the score has there.
+-- What a listener knows after each column of a voice, by what the score has there.
 use Rattle.std.proofs.Common.{◌≡◌, refl, sym, ap, ◌∙◌, List, [], ◌∷◌, ◌++◌, map, reverse, append-nil, append_assoc}
 use Rattle.std.proofs.Common.{Bool, true, false, ◌&&◌, ◌||◌, cond}
 use Rattle.std.proofs.lemmas.Bool.{or_parts}
@@ -48,13 +48,13 @@ heads_in xs = map (λ x. x.head) xs
 abbrev pub SameKey : List Sign → List Sign → Type 0
 SameKey k signs = (p : Pitch) → unwrap_or (key_sign p k) Alter.Natural ≡ unwrap_or (key_sign p signs) Alter.Natural
 
--- the last heads of the voice are the last that were heard; behind a rest there are none, and no tie comes from it
+-- the last heads of the voice are the last that were heard; after a rest there are none, and no tie comes from it
 abbrev pub SameBefore : List score.AlteredHead → List page.Heard → Type 0
 SameBefore [] eb = ⊤
 SameBefore (x ∷ xs) eb = eb ≡ map as_heard (x ∷ xs)
 
--- What a listener knows behind a column: clef and key that are in force, the heads said in the measure, those of
--- the last event, and all heads so far.
+-- What a listener knows after a column: the clef and key in force, the heads said in the measure, those of the last
+-- event, and all heads so far.
 pub record Hears (ear : Listener) (clef : Clef) (signs : List Sign) (said : List Head) (before : List score.AlteredHead)
     (all : List page.Heard) : Type 0 where
   pub clef_is : ear.clef ≡ clef
@@ -64,7 +64,7 @@ pub record Hears (ear : Listener) (clef : Clef) (signs : List Sign) (said : List
   pub here : ear.here ≡ []
   pub all_is : ear.heard ≡ all
 
--- ---- a column, by what its notes tell
+-- ---- a column, by what its notes report
 pub column_law : {ear : Listener} {c : Clef} {signs : List Sign} {said : List Head} {before : List score.AlteredHead}
     {all : List page.Heard} (spread : Spread) (col : HeardColumn) (c' : Clef) (signs' key : List Sign)
     (said' : List Head) (before' : List score.AlteredHead) (all' heads : List page.Heard)
@@ -162,7 +162,7 @@ tie_same : (p : Pitch) (before : List score.AlteredHead) (eb : List page.Heard)
 tie_same p [] eb apart same = refl
 tie_same p (x ∷ xs) eb apart same = rw same (tie_found p (x ∷ xs) apart)
 
--- ---- the heads of a chord, one after the other
+-- ---- the heads of a chord, one after another
 said_more : (role : Role) (c : Clef) (notes : List HeardGlyph) (said : List Head) (h : Head)
     → ((g : Head) (gs : List Head) → said_with role g gs ≡ gs ++ g ∷ [])
     → pitch_at c (dy_of c h) ≡ h.pitch → sign_of_glyph (dy_of c h) notes ≡ h.sign

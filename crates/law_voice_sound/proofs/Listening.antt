@@ -1,4 +1,4 @@
--- A listener hears of columns what is of account in them.
+-- A listener hears only what matters in columns.
 use Rattle.std.proofs.Common.{◌≡◌, refl, sym, ap, ◌∙◌, ℤ, Bool, true, false, ◌||◌, List, [], ◌∷◌, ◌++◌, append-nil}
 use Rattle.std.proofs.lemmas.Bool.{false≢true, or_parts}
 use Rattle.std.specs.Prelude.{if◌then◌else◌}
@@ -22,7 +22,7 @@ told_join (x ∷ xs) ys =
     ≡ (if b then plain x ∷ columns_heard xs else columns_heard xs) ++ columns_heard ys)
     [ true ↦ ap (λ t. plain x ∷ t) (told_join xs ys) | false ↦ told_join xs ys ]
 
--- a column without notes leaves him as he is
+-- a column without notes leaves the listener's state as it is
 pub nothing_told : (spread : Spread) (ear : Listener) (ties : List ℤ)
     → ear.here ≡ [] → hear_column spread ear (record { leads = false; notes = []; ties = ties }) ≡ ear
 unfolding hear_column
@@ -31,7 +31,7 @@ nothing_told spread ear ties e =
     ∙ ap (λ (t : List Heard). record ear { here = []; heard = t }) (append-nil ear.heard)
     ∙ ap (λ (h : List Heard). record ear { here = h }) (sym e)
 
--- ties are of account only where a head is listed
+-- ties matter only if a head is listed
 abbrev sounds : List HeardGlyph → Bool
 sounds ns = list_any (λ n. is_listed n.role) ns
 

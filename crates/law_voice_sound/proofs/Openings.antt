@@ -1,4 +1,4 @@
--- What a listener knows behind the head of a system, a change and a bar.
+-- What a listener knows after the head of a system, a change and a bar.
 use Rattle.std.proofs.Common.{◌≡◌, refl, ap, ◌∙◌, List, [], ◌∷◌, ◌++◌, map, append-nil, Bool, true, false, cond, not}
 use Rattle.std.specs.Prelude.{ℤ, pos, Option, Some, None, unwrap_or, if◌then◌else◌}
 use Rattle.std.specs.List.{find, list_any}
@@ -28,7 +28,7 @@ use Rattle.law_voice_sound.specs.Noted.{naturals, new_signs, note}
 use Rattle.law_voice_sound.proofs.Columns.{Hears, SameKey, column_law, shown_head}
 use Rattle.law_voice_sound.proofs.Pitches.{entries_read}
 
--- what passes over a sign and a clef passes over those of a column
+-- a function that skips a sign and a clef skips those of a column
 entries_passed : {A : Type 0} (f : List HeardGlyph → A)
     → ((a : Alter) (dy : ℤ) (ns : List HeardGlyph) → f (note (Role.Sign a) dy ∷ ns) ≡ f ns)
     → (c : Clef) (ss : List Sign)
@@ -37,7 +37,7 @@ entries_passed f one c [] = refl
 entries_passed f one c (s ∷ ss) =
     one s.alter (entry_dy c s.alter s.letter) (entry_notes c ss) ∙ entries_passed f one c ss
 
--- of a column that shows a clef and signs of a key
+-- for a column that shows a clef and signs of a key
 abbrev opening : Option Clef → Clef → List Sign → List HeardGlyph
 opening clef c ss = clef_notes clef ++ entry_notes c ss
 
@@ -98,7 +98,7 @@ natural_key p (s ∷ ss) = one (same_letter s.letter p.letter) (natural_key p ss
     one true e = refl
     one false e = e
 
--- the key that is heard behind a change: a column of no heads gives it where it has a sign
+-- the key that is heard after a change: a column without heads gives it if it has a sign
 abbrev key_behind : List Sign → List Sign → List Sign
 key_behind key [] = key
 key_behind key (s ∷ ss) = s ∷ ss

@@ -85,7 +85,7 @@ pitch_found p g e =
 pitch_itself : (g : Head) → has_pitch g.pitch g ≡ true
 pitch_itself g = grind (arith, nat_tests, ints)
 
--- heads of different pitches stand at different heights
+-- heads of different pitches have different heights
 pub heights_apart : (c : Clef) (h g : Head)
     → IsInReach c h → IsInReach c g → has_pitch h.pitch g ≡ false → int_eq (dy_of c h) (dy_of c g) ≡ false
 heights_apart c h g p q n = false_from_ne_true (int_eq (dy_of c h) (dy_of c g)) (λ e.

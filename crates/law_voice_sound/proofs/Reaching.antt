@@ -1,4 +1,4 @@
--- Heads within reach of a staff, the ties that end at them, and heads as a page tells how they sound.
+-- Heads within reach of a staff, the ties that end at them, and heads as a page reports how they sound.
 use Rattle.std.specs.{Prelude.{⊤, ◌≡◌, ℤ, Bool, ◌&&◌, List, [], ◌∷◌}, List.list_any, Ordering.int_eq}
 use Rattle.mus_units.specs.declared.{note.Head.Head, pitch.Clef.Clef, pitch.Pitch.Pitch}
 use Rattle.{mus_score.specs.GoodScore.{IsInReach}, mus_arcs.specs.Arcs.{has_pitch}, mus_ink.specs.Notes.{dy_of}}
@@ -16,7 +16,7 @@ AllReach c (h ∷ hs) = IsInReach c h × AllReach c hs
 abbrev pub ties_to : Pitch → List Head → Bool
 ties_to p prev = list_any (λ g. g.tied && has_pitch p g) prev
 
--- in the column of an event a tie ends at just those heads to which one of the event before is tied
+-- in the column of an event a tie ends at exactly those heads to which a head of the event before is tied
 abbrev pub TiesEnd : Clef → List ℤ → List Head → List Head → Type 0
 TiesEnd c ties prev [] = ⊤
 TiesEnd c ties prev (h ∷ hs) = (list_any (int_eq (dy_of c h)) ties ≡ ties_to h.pitch prev) × TiesEnd c ties prev hs

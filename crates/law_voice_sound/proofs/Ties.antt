@@ -1,4 +1,4 @@
--- The ties that end in the column of an event end at just the heads to which one of the event before is tied.
+-- The ties that end in the column of an event end at exactly the heads to which a head of the event before is tied.
 use Rattle.std.proofs.Common.{◌≡◌, refl, sym, ap, ◌∙◌, Bool, true, false, cond, ◌&&◌, ◌||◌, List, [], ◌∷◌, Some}
 use Rattle.std.proofs.Math.Bool.{and-false, and-true, or-false, or-true}
 use Rattle.std.proofs.lemmas.List.Folds.{list_any-append}
@@ -16,7 +16,7 @@ use Rattle.law_voice_sound.specs.Columns.{height_if, tie_heights}
 use Rattle.law_voice_sound.proofs.Pitches.{heights_apart, pitch_flip, pitch_found}
 use Rattle.law_voice_sound.proofs.Reaching.{AllReach, TiesEnd, ties_to}
 
--- heights tell heads
+-- heights determine heads
 height_tells : (c : Clef) (h g : Head) (b : Bool)
     → has_pitch g.pitch h ≡ b → IsInReach c h → IsInReach c g → int_eq (dy_of c h) (dy_of c g) ≡ b
 unfolding dy_of
@@ -24,7 +24,7 @@ height_tells c h g false e p q = heights_apart c h g p q (pitch_flip h g ∙ e)
 height_tells c h g true e p q =
     ap (λ t. int_eq (dy_of c h) (steps_dy (height_of t c))) (pitch_found g.pitch h e) ∙ itself (dy_of c h)
 
--- a tie to a pitch ends at the heads of that pitch, where there is one
+-- a tie to a pitch ends at the heads of that pitch, if there is one
 first_tells : (c : Clef) (p : Pitch) (h g : Head) (hs : List Head) (b : Bool)
     → has_pitch p g ≡ b → IsInReach c h → IsInReach c g
     → list_any (int_eq (dy_of c h)) (height_if c (find (has_pitch p) hs)) ≡ (has_pitch p h && list_any (has_pitch p) hs)

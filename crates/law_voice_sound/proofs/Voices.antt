@@ -40,7 +40,7 @@ use Rattle.law_voice_sound.proofs.Openings.{bar_law, change_law}
 use Rattle.law_voice_sound.proofs.Reaching.{AllReach, as_heard}
 use Rattle.law_voice_sound.proofs.Ties.{ties_end}
 
--- what a listener knows who stands where the voice does
+-- what a listener knows at the point that the voice has reached
 pub record Knows (ear : Listener) (at : StaffState) (said : List Head) (before : List score.AlteredHead)
     (prev : List Head) (all : List page.Heard) : Type 0 where
   pub hears : Hears ear at.clef at.key.signs said before all
@@ -67,7 +67,7 @@ graces_law spread ear c signs said before all (g ∷ gs) h r a =
     (All-tail (λ (x : Event). All (IsInReach c) x.heads) g gs r)
     (All-tail (λ (x : Event). DistinctPitches x.heads) g gs a))
 
--- the sounds of an event, and of what is behind it
+-- the sounds of an event, and of what follows it
 sounds_are : (id k : ℕ) (xs : List score.AlteredHead) → map as_heard xs ≡ map heard_sound (sounds_from 0 id k xs)
 sounds_are id k [] = refl
 sounds_are id k (x ∷ xs) = ap (λ r. as_heard x ∷ r) (sounds_are id (k + 1) xs)
@@ -106,7 +106,7 @@ event_law spread ear now said before prev all f k reach graces clear =
       apart = clear.chord;
     }
 
--- the change before it, where the head of its system hasn't shown it
+-- the change before it, unless the head of its system has shown it
 change_step : (spread : Spread) (in_head : Bool) (ear : Listener) (now : StaffState) (said : List Head)
     (before : List score.AlteredHead) (prev : List Head) (all : List page.Heard) (f : Flat)
     → Knows ear (if in_head then standing_after now f.event.changes else now) said before prev all
@@ -152,14 +152,14 @@ events_law spread in_head ear now said before prev all (f ∷ fs) k r a =
     (change_step spread in_head ear now said before prev all f k) r.0 r.1 (All-head IsClearFlat f fs a))
     r.2 (All-tail IsClearFlat f fs a))
 
--- ---- bars: nothing is said behind one, or no note follows
+-- ---- bars: nothing is said after one, or no note follows
 pub record IsReady (ear : Listener) (at : StaffState) (before : List score.AlteredHead) (prev : List Head)
     (all : List page.Heard) (ms : List Measure) : Type 0 where
   pub said : List Head
   pub knows : Knows ear at said before prev all
   pub left : (said ≡ []) ⊎ AreSilentMeasures ms
 
--- what a bar tells: that it ends a measure, where it is seen
+-- what a bar reports: that it ends a measure, if it is seen
 pub Telling : Glyph → Type 0
 Telling g =
     (noted (role_of g (pos 0)) (pos 0) ≡ note Role.Bar (pos 0) ∷ [])

@@ -1,5 +1,5 @@
--- A clear voice: no chord, those of graces too, has two heads of one letter and octave, and no note follows an unseen
--- bar behind a measure. Of the bar before the first measure nothing is asked: no note was heard before it.
+-- A clear voice: no chord, including those of graces, has two heads of one letter and octave, and no note follows an
+-- unseen bar after a measure. There is no condition on the bar before the first measure: no note was heard before it.
 use Rattle.std.specs.{Prelude.{⊤, ◌≡◌, ◌⊎◌, false, List, [], ◌∷◌, All}, List.list_any}
 use Rattle.mus_units.specs.declared.glyph.Glyph.{Glyph}
 use Rattle.mus_units.specs.declared.note.Head.{Head}
@@ -19,7 +19,7 @@ pub record IsClearFlat (f : Flat) : Type 0 where
   pub chord : DistinctPitches f.event.heads
   pub graces : All (λ g. DistinctPitches g.heads) f.graces
 
--- no event among some has a head, and none in some measures; graces aren't listed, so they don't count
+-- no event of a list has a head, and none in some measures; graces are not listed, so they do not count
 abbrev pub HaveNoHeads : List Flat → Type 0
 HaveNoHeads [] = ⊤
 HaveNoHeads (f ∷ fs) = (f.event.heads ≡ []) × HaveNoHeads fs

@@ -1,6 +1,6 @@
--- The columns of a voice that has a staff of its own, system by system, said of its score alone. What is in force and
--- the heads of the event before are carried along. In the column of an event the ties end that come from the event
--- before it.
+-- The columns of a voice that has a staff of its own, system by system, defined by its score alone. What is in force
+-- and the heads of the event before are carried along. The ties that end in the column of an event are those that
+-- come from the event before it.
 use Rattle.std.specs.{Prelude.{ℤ, Bool, true, false, if◌then◌else◌, List, [], ◌∷◌, ◌++◌, Option, Some, None}, List.find}
 use Rattle.mus_units.specs.declared.{note.Bar.Bar, note.Head.Head, pitch.Clef.Clef}
 use Rattle.mus_score.specs.declared.score.Event.{Event}
@@ -18,7 +18,8 @@ use Rattle.ps_heard.specs.declared.column.HeardColumn.{HeardColumn}
 use Rattle.ps_heard.specs.declared.column.Role.{Role}
 use Rattle.law_voice_sound.specs.Noted.{bar_notes, change_notes, head_column_notes, head_notes, sign_notes}
 
--- the heights at which the ties from one event end at the heads of the next: each at the first of its letter and octave
+-- the heights at which the ties from one event end at the heads of the next: each at the first of its letter and
+-- octave
 abbrev pub height_if : Clef → Option Head → List ℤ
 height_if c None = []
 height_if c (Some h) = dy_of c h ∷ []
@@ -27,7 +28,7 @@ abbrev pub tie_heights : Clef → List Head → List Head → List ℤ
 tie_heights c [] hs = []
 tie_heights c (g ∷ gs) hs = (if g.tied then height_if c (find (has_pitch g.pitch) hs) else []) ++ tie_heights c gs hs
 
--- a chord; the change before an event; the bar behind a measure
+-- a chord; the change before an event; the bar after a measure
 abbrev pub chord_column : Role → Clef → List Head → List ℤ → HeardColumn
 chord_column role c hs ties = record { leads = false; notes = sign_notes c hs ++ head_notes role c hs; ties = ties }
 
@@ -41,7 +42,7 @@ change_column now f = record {
 abbrev pub bar_column : Bar → HeardColumn
 bar_column b = record { leads = false; notes = bar_notes b; ties = [] }
 
--- an event behind its graces
+-- an event after its graces
 abbrev pub grace_columns : Clef → List Event → List HeardColumn
 grace_columns c [] = []
 grace_columns c (g ∷ gs) = chord_column Role.Grace c g.heads [] ∷ grace_columns c gs
@@ -85,17 +86,17 @@ shown_first now (m ∷ ms) = state_shown now (flats_of m.body)
 abbrev pub head_column : StaffState → HeardColumn
 head_column now = record { leads = true; notes = head_column_notes now.clef now.key.signs; ties = [] }
 
--- the bar before the first measure, where it has features
+-- the bar before the first measure, if it has features
 abbrev pub first_columns : Option Bar → List HeardColumn
 first_columns None = []
 first_columns (Some bar) = if has_features bar then bar_column bar ∷ [] else []
 
--- a system of some measures; `first` is the bar before them, where they are the first of the voice
+-- a system of some measures; `first` is the bar before them, if they are the first of the voice
 abbrev pub heard_system : Option Bar → StaffState → List Head → List Measure → List HeardColumn
 heard_system first now prev ms =
     head_column (shown_first now ms) ∷ first_columns first ++ heard_measures true now prev ms
 
--- what is in force behind measures, and the heads of the last event
+-- what is in force after measures, and the heads of the last event
 abbrev pub standing_through : StaffState → List Measure → StaffState
 standing_through now [] = now
 standing_through now (m ∷ ms) = standing_through (standing_behind now (flats_of m.body)) ms

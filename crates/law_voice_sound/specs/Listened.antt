@@ -1,4 +1,4 @@
--- What a listener heeds of columns: a column that leads or has a note, and of its ties those that end where a head is.
+-- What a listener heeds of columns: a column that leads or has a note, and of its ties those that end at a head.
 use Rattle.std.specs.{Prelude.{Bool, true, false, ◌||◌, if◌then◌else◌, List, [], ◌∷◌}, List.list_any}
 use Rattle.ps_heard.specs.declared.column.HeardColumn.{HeardColumn}
 use Rattle.ps_heard.specs.declared.column.HeardGlyph.{HeardGlyph}

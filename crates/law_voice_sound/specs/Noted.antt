@@ -1,4 +1,4 @@
--- What a listener notes of the parts that a voice draws: clefs, entries, signs, heads and bars; all else is quiet.
+-- What a listener notes of the parts that a voice draws: clefs, entries, signs, heads and bars. The rest is quiet.
 use Rattle.std.specs.Prelude.{ℤ, pos, List, [], ◌∷◌, ◌++◌, Option, Some, None}
 use Rattle.mus_units.specs.declared.key.Key.{Key}
 use Rattle.mus_units.specs.declared.key.Sign.{Sign}
@@ -27,7 +27,7 @@ entry_notes c (s ∷ ss) = note (Role.Sign s.alter) (entry_dy c s.alter s.letter
 abbrev pub head_column_notes : Clef → List Sign → List HeardGlyph
 head_column_notes c signs = clef_note c ∷ entry_notes c signs
 
--- a change shows the new clef, and of a new key its signs, or a natural for each old one where it has none
+-- a change shows the new clef, and for a new key its signs, or if it has none a natural for each old one
 abbrev pub clef_notes : Option Clef → List HeardGlyph
 clef_notes None = []
 clef_notes (Some c) = clef_note c ∷ []
@@ -60,6 +60,6 @@ abbrev pub head_notes : Role → Clef → List Head → List HeardGlyph
 head_notes role c [] = []
 head_notes role c (h ∷ hs) = note role (dy_of c h) ∷ head_notes role c hs
 
--- a bar, where it is seen
+-- a bar, if it is seen
 abbrev pub bar_notes : Bar → List HeardGlyph
 bar_notes b = noted (role_of (bar_glyph b) (pos 0)) (pos 0)

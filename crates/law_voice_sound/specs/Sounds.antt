@@ -1,4 +1,4 @@
--- What the heads of a voice sound, in order, as a listener hears it; and the law that they are heard so.
+-- What the heads of a voice sound, in order, as a listener hears it; and the law that they are heard like that.
 use Rattle.std.specs.Prelude.{◌≡◌, List, map, flat_map, []}
 use Rattle.mus_units.specs.declared.key.Spread.{Spread}
 use Rattle.mus_score.specs.declared.score.Measure.{Measure}
@@ -17,7 +17,7 @@ heard_sound x = record { pitch = x.pitch; alter = x.alter }
 abbrev pub voice_heard : Spread → Voice → List Heard
 voice_heard spread v = map heard_sound (event_sounds 0 spread [] (seen_in (standing_of v) v.measures))
 
--- however the measures of a clear voice are parted into systems
+-- however the measures of a clear voice are divided into systems
 abbrev pub ClearVoicesAreHeard : Type 0
 ClearVoicesAreHeard =
     (spread : Spread) (v : Voice) (systems : List (List Measure))

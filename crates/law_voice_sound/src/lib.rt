@@ -1,5 +1,5 @@
-//! Laws of hearing, of one voice: a clear voice is heard at its columns as it sounds, however its
-//! measures are parted into systems.
+//! Laws of hearing, of one voice: a clear voice is heard at its columns as it sounds, however its measures are
+//! divided into systems.
 //!
-//! The crate has no code: its laws stand in `proofs`, and what they say in `specs`.
+//! The crate has no code: its laws are in `proofs`, their statements in `specs`.
 #![tactic(auto)]
