@@ -1,5 +1,5 @@
-//! Books in the folder, each beside what is written of it: the pages behind the prolog that `set` writes, the table
-//! of `systems --table`, and the faults.
+//! Books in the folder, each with its expected output in a file beside it: the pages after the prolog that `set`
+//! writes, the table of `systems --table`, and the faults.
 
 use crate::case::{Expected, RunCase, verdict, words_of};
 use crate::files::{read_file, read_table};
@@ -10,7 +10,7 @@ use std::io;
 /// The line that ends the part of a document that is the same for every book.
 const END_OF_PROLOG: &[u8] = b"%%EndProlog\n";
 
-/// A run of the words on a book.
+/// Runs the words on a book.
 fn ran_on<R: Host>(rt: &R, words: &str, book: &[u8]) -> io::Result<Finished> {
     let alloc = rt.alloc();
     let told = Expected {
@@ -26,7 +26,7 @@ fn ran_on<R: Host>(rt: &R, words: &str, book: &[u8]) -> io::Result<Finished> {
     ran(rt, &case, &Streams::sound(PIECE))
 }
 
-/// What stands behind the prolog of a document.
+/// Returns the part of a document after its prolog.
 fn behind_prolog(document: &[u8]) -> &[u8] {
     for (place, part) in document.windows(END_OF_PROLOG.len()).enumerate() {
         if part == END_OF_PROLOG {
@@ -37,7 +37,7 @@ fn behind_prolog(document: &[u8]) -> &[u8] {
     &[]
 }
 
-/// Whether a text is three others, one after another.
+/// Returns whether a text is three others, one after another.
 fn is_joined(text: &[u8], first: &[u8], second: &[u8], third: &[u8]) -> bool {
     let Some(rest) = text.strip_prefix(first) else {
         return false;
@@ -45,7 +45,7 @@ fn is_joined(text: &[u8], first: &[u8], second: &[u8], third: &[u8]) -> bool {
     rest.strip_prefix(second) == Some(third)
 }
 
-/// Whether both runs have the status that the told faults ask for.
+/// Returns whether both runs have the status that the reported faults call for.
 fn have_status(set: &Finished, systems: &Finished) -> bool {
     let status = if set.errors.taken().is_empty() {
         Status::Done
@@ -55,7 +55,7 @@ fn have_status(set: &Finished, systems: &Finished) -> bool {
     set.status == status && systems.status == status
 }
 
-/// Whether what is written of a book is what is told: its pages, its listing and its faults.
+/// Returns whether the output for a book is as expected: its pages, its listing and its faults.
 fn writes_what_is_told<R: Host>(rt: &R, book: &[u8], told: &[u8]) -> io::Result<bool> {
     let set = ran_on(rt, "set", book)?;
     let systems = ran_on(rt, "systems --table", book)?;
@@ -68,7 +68,7 @@ fn writes_what_is_told<R: Host>(rt: &R, book: &[u8], told: &[u8]) -> io::Result<
     )
 }
 
-/// Whether a book is written as the file beside it tells.
+/// Returns whether a book is written as the file beside it says.
 fn is_as_told<R: Host>(rt: &R, name: &str) -> io::Result<bool> {
     let alloc = rt.alloc();
     let book = read_file(rt, &format!(in alloc; "{name}.abc")?)?;
@@ -76,7 +76,7 @@ fn is_as_told<R: Host>(rt: &R, name: &str) -> io::Result<bool> {
     writes_what_is_told(rt, &book, &told)
 }
 
-/// Tells each book that the table `books` names.
+/// Reports each book that the table `books` names.
 pub(crate) fn tell_books<R: Host>(rt: &R) -> io::Result<()> {
     let table = read_table(rt, "books")?;
     for name in table.lines() {

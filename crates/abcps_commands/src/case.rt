@@ -1,8 +1,8 @@
-//! Cases, as the lines of a table say them.
+//! Cases, as read from the lines of a table.
 //!
-//! A line has the case's name, its words, its input, the number of its status, its output and its errors, with `; `
-//! between two. Words stand a space apart. Input, output and errors are names of files, or `-` for nothing; an
-//! input may also be made, as `50000 rests`.
+//! A line has the case's name, its words, its input, the number of its status, its output and its errors, separated
+//! by `; `. Words are a space apart. Input, output and errors are names of files, or `-` for nothing; an input may
+//! also be generated, as `50000 rests`.
 
 use crate::files::read_file;
 use crate::made::made;
@@ -11,10 +11,10 @@ use abcps::Status;
 use std::alloc::{AllocError, Global};
 use std::io;
 
-/// The field that stands for nothing.
+/// The field that denotes nothing.
 const NOTHING: &str = "-";
 
-/// What a run should answer and write.
+/// The expected status and output of a run.
 #[derive(Drop)]
 pub(crate) struct Expected {
     pub(crate) status: u8,
@@ -22,7 +22,7 @@ pub(crate) struct Expected {
     pub(crate) errors: Vec<u8>,
 }
 
-/// The words and the input of a run, and what should come of it.
+/// The words and the input of a run, and its expected result.
 #[derive(Drop)]
 pub(crate) struct RunCase {
     pub(crate) words: Vec<String>,
@@ -30,7 +30,7 @@ pub(crate) struct RunCase {
     pub(crate) told: Expected,
 }
 
-/// Whether a text was cut: whether what was taken of it is a front that isn't all.
+/// Returns whether a text was cut off: whether what was taken of it is a prefix that isn't all of it.
 fn is_cut(taken: &[u8], text: &[u8]) -> bool {
     match text.strip_prefix(taken) {
         Some(rest) => !rest.is_empty(),
@@ -38,7 +38,7 @@ fn is_cut(taken: &[u8], text: &[u8]) -> bool {
     }
 }
 
-/// The status of a run whose errors fail. A line that tells why nothing was done may be lost.
+/// Returns the status of a run whose errors fail. A line that reports why nothing was done may be lost.
 fn status_without_errors(status: u8) -> u8 {
     if status == Status::SomeRefused.number() {
         Status::WriteFault.number()
@@ -68,14 +68,14 @@ impl Expected {
 }
 
 impl RunCase {
-    /// Whether a run over streams that didn't fail is as told.
+    /// Returns whether a run over streams that didn't fail is as expected.
     pub(crate) fn is_told(&self, finished: &Finished) -> bool {
         finished.status.number() == self.told.status
             && finished.output.taken() == self.told.output.as_slice()
             && finished.errors.taken() == self.told.errors.as_slice()
     }
 
-    /// Whether a run is as it should be where one of its streams failed.
+    /// Returns whether a run is as expected if one of its streams failed.
     pub(crate) fn is_told_after(&self, stream: Stream, finished: &Finished) -> bool {
         match stream {
             Stream::Input => self.told.is_after_input(finished),
@@ -84,7 +84,7 @@ impl RunCase {
         }
     }
 
-    /// Whether something should be written on a sink.
+    /// Returns whether something should be written on a sink.
     pub(crate) fn writes_on(&self, stream: Stream) -> bool {
         match stream {
             Stream::Input => false,
@@ -94,13 +94,13 @@ impl RunCase {
     }
 }
 
-/// The first field of a line, and those behind it.
+/// Returns the first field of a line, and the fields after it.
 fn next_field(line: &str) -> io::Result<(&str, &str)> {
     line.split_once("; ")
         .ok_or(io::Error::other("a field is wanting"))
 }
 
-/// The words of a field, a space apart.
+/// Returns the words of a field, a space apart.
 pub(crate) fn words_of(alloc: Global, field: &str) -> Result<Vec<String>, AllocError> {
     let mut words = Vec::new(alloc);
     if field != NOTHING {
@@ -111,7 +111,7 @@ pub(crate) fn words_of(alloc: Global, field: &str) -> Result<Vec<String>, AllocE
     Ok(words)
 }
 
-/// The text that a field names.
+/// Returns the text that a field names.
 fn text_of<R: Host>(rt: &R, field: &str) -> io::Result<Vec<u8>> {
     if field == NOTHING {
         Ok(Vec::new(rt.alloc()))
@@ -120,7 +120,7 @@ fn text_of<R: Host>(rt: &R, field: &str) -> io::Result<Vec<u8>> {
     }
 }
 
-/// The input that a field names or says how to make.
+/// Returns the input that a field names or says how to generate.
 fn input_of<R: Host>(rt: &R, field: &str) -> io::Result<Vec<u8>> {
     match field.split_once(' ') {
         Some((count, what)) => made(rt.alloc(), count, what),
@@ -135,7 +135,7 @@ fn status_of(field: &str) -> io::Result<u8> {
     }
 }
 
-/// What fields say that should come.
+/// Returns the result that fields say is expected.
 fn told_of<R: Host>(rt: &R, fields: &str) -> io::Result<Expected> {
     let (status, fields) = next_field(fields)?;
     let (output, errors) = next_field(fields)?;
@@ -146,7 +146,7 @@ fn told_of<R: Host>(rt: &R, fields: &str) -> io::Result<Expected> {
     })
 }
 
-/// The case that the fields behind its name say.
+/// Returns the case that the fields after its name say.
 fn case_of<R: Host>(rt: &R, fields: &str) -> io::Result<RunCase> {
     let (words, fields) = next_field(fields)?;
     let (input, fields) = next_field(fields)?;
@@ -157,13 +157,13 @@ fn case_of<R: Host>(rt: &R, fields: &str) -> io::Result<RunCase> {
     })
 }
 
-/// The name on a line of a table, and the case that it names.
+/// Returns the name on a line of a table, and the case that it names.
 pub(crate) fn named_case<'a, R: Host>(rt: &R, line: &'a str) -> io::Result<(&'a str, RunCase)> {
     let (name, fields) = next_field(line)?;
     Ok((name, case_of(rt, fields)?))
 }
 
-/// The words that tell whether a case is as told.
+/// Returns the words that report whether a case is as expected.
 pub(crate) fn verdict(is_told: bool) -> &'static str {
     if is_told { "as told" } else { "other" }
 }

@@ -4,13 +4,13 @@ use crate::case::{RunCase, verdict};
 use crate::running::{Host, PIECE, Stream, Streams, ran};
 use std::io;
 
-/// Whether a run over streams is as told.
+/// Returns whether a run over streams is as expected.
 pub(crate) fn is_told<R: Host>(rt: &R, case: &RunCase, streams: &Streams) -> io::Result<bool> {
     let finished = ran(rt, case, streams)?;
     Ok(case.is_told(&finished))
 }
 
-/// Whether a run over streams of which one fails is as told.
+/// Returns whether a run over streams of which one fails is as expected.
 fn is_told_after<R: Host>(
     rt: &R,
     case: &RunCase,
@@ -21,8 +21,8 @@ fn is_told_after<R: Host>(
     Ok(case.is_told_after(stream, &finished))
 }
 
-/// Whether a run is as told with each of the calls of a stream failing in turn, and with the one behind them, that
-/// doesn't come.
+/// Returns whether a run is as expected with each of the calls of a stream failing in turn, and with the call after
+/// the last, which is never made.
 fn fails_as_told<R: Host>(rt: &R, case: &RunCase, stream: Stream, calls: u64) -> io::Result<bool> {
     for call in 0..calls {
         if !is_told_after(rt, case, stream, &Streams::failing_at(stream, call))? {
@@ -32,7 +32,7 @@ fn fails_as_told<R: Host>(rt: &R, case: &RunCase, stream: Stream, calls: u64) ->
     is_told(rt, case, &Streams::failing_at(stream, calls))
 }
 
-/// Whether a run is as told with a sink that takes no byte.
+/// Returns whether a run is as expected with a sink that takes no byte.
 fn takes_none_as_told<R: Host>(rt: &R, case: &RunCase, stream: Stream) -> io::Result<bool> {
     let streams = Streams::taking_none(stream);
     if case.writes_on(stream) {
@@ -42,7 +42,7 @@ fn takes_none_as_told<R: Host>(rt: &R, case: &RunCase, stream: Stream) -> io::Re
     }
 }
 
-/// Whether a run is as told with sinks that take a byte in each call, and with each that takes none.
+/// Returns whether a run is as expected with sinks that take a byte in each call, and with each sink taking none.
 fn trickles_as_told<R: Host>(rt: &R, case: &RunCase) -> io::Result<bool> {
     Ok(
         is_told(rt, case, &Streams::sound(1))?
@@ -59,7 +59,7 @@ fn calls_named(stream: Stream) -> &'static str {
     }
 }
 
-/// Tells whether a case is as told with each call of a stream failing.
+/// Reports whether a case is as expected with each call of a stream failing.
 fn tell_stream<R: Host>(
     rt: &R,
     name: &str,
@@ -72,7 +72,7 @@ fn tell_stream<R: Host>(
     println!(rt; "{name}, {what} failing in turn ({calls}): {verdict}")
 }
 
-/// How often a run over sound streams calls each of them.
+/// Returns how often a run over sound streams calls each of them.
 fn calls_of<R: Host>(rt: &R, case: &RunCase) -> io::Result<[u64; 3]> {
     let sound = ran(rt, case, &Streams::sound(PIECE))?;
     Ok([
@@ -82,7 +82,7 @@ fn calls_of<R: Host>(rt: &R, case: &RunCase) -> io::Result<[u64; 3]> {
     ])
 }
 
-/// Tells whether a case is as told over streams that fail.
+/// Reports whether a case is as expected over streams that fail.
 pub(crate) fn tell_failures<R: Host>(rt: &R, name: &str, case: &RunCase) -> io::Result<()> {
     let [reads, writes, errors] = calls_of(rt, case)?;
     tell_stream(rt, name, case, Stream::Input, reads)?;

@@ -9,13 +9,13 @@ use std::io;
 use std::sync::atomic::AtomicU64;
 use std::sync::atomic::Ordering::SeqCst;
 
-/// How many tunes a gate knows.
+/// The number of tunes that a gate knows.
 const MOST_TUNES: usize = 1000;
 
-/// How many turns a tune waits for the other.
+/// The number of turns that a tune waits for the other.
 const TURNS: u32 = 200_000_000;
 
-/// A gate that keeps how often each tune entered, by its place in the book.
+/// A gate that records how often each tune entered, by its number in the book.
 #[derive(Drop)]
 struct Counter {
     entered: Vec<AtomicU64>,
@@ -37,7 +37,7 @@ fn make_counter(alloc: Global) -> Result<Counter, AllocError> {
     Ok(Counter { entered })
 }
 
-/// How many tunes entered a gate, and how often: the least of them and the most.
+/// How many tunes entered a gate, and how often: the fewest times and the most.
 #[derive(Clone, Copy)]
 pub(crate) struct Entered {
     pub(crate) tunes: u64,
@@ -68,7 +68,7 @@ impl Counter {
     }
 }
 
-/// A run of a case over streams that never fail, and who entered its gate.
+/// Runs a case over streams that never fail, and returns the run and who entered its gate.
 pub(crate) fn ran_counted<R: Host>(rt: &R, case: &RunCase) -> io::Result<(Finished, Entered)> {
     let counter = make_counter(rt.alloc())?;
     let finished = ran_through(rt, case, &Streams::sound(PIECE), &counter)?;

@@ -1,8 +1,8 @@
-//! Runs each command of the top call over streams in memory, and tells of each case in its folder whether what is
-//! answered and written is what stands there: over streams that never fail (the table `cases`), and with each call
-//! of each stream failing in turn (the table `failing`); how often each tune of a book enters the gate (the table
-//! `gates`); and whether two tunes that wait for each other meet (the table `meetings`). `case` says how a line of a
-//! table is read. Then it tells of books and of painted programs, as `books` and `painting` say.
+//! Runs each command of the top call over streams in memory, and reports for each case in its folder whether the
+//! status and the written bytes are as the case says: over streams that never fail (the table `cases`), and with each
+//! call of each stream failing in turn (the table `failing`); how often each tune of a book enters the gate (the
+//! table `gates`); and whether two tunes that wait for each other meet (the table `meetings`). `case` says how a line
+//! of a table is read. Then it reports on books and on painted programs, as `books` and `painting` say.
 #![tactic(auto)]
 
 mod books;
@@ -24,14 +24,14 @@ use crate::running::{PIECE, Streams};
 pub use running::Host;
 use std::io;
 
-/// Tells a case over streams that never fail.
+/// Reports a case over streams that never fail.
 fn tell_case<R: Host>(rt: &R, line: &str) -> io::Result<()> {
     let (name, case) = named_case(rt, line)?;
     let verdict = verdict(is_told(rt, &case, &Streams::sound(PIECE))?);
     println!(rt; "{name}: {verdict}")
 }
 
-/// Tells each case of the table `cases`.
+/// Reports each case of the table `cases`.
 fn tell_cases<R: Host>(rt: &R) -> io::Result<()> {
     let table = read_table(rt, "cases")?;
     for line in table.lines() {
@@ -40,13 +40,13 @@ fn tell_cases<R: Host>(rt: &R) -> io::Result<()> {
     Ok(())
 }
 
-/// Tells a case over streams that fail.
+/// Reports a case over streams that fail.
 fn tell_failing_case<R: Host>(rt: &R, line: &str) -> io::Result<()> {
     let (name, case) = named_case(rt, line)?;
     tell_failures(rt, name, &case)
 }
 
-/// Tells each case of the table `failing`.
+/// Reports each case of the table `failing`.
 fn tell_failing<R: Host>(rt: &R) -> io::Result<()> {
     let table = read_table(rt, "failing")?;
     for line in table.lines() {
@@ -55,13 +55,13 @@ fn tell_failing<R: Host>(rt: &R) -> io::Result<()> {
     Ok(())
 }
 
-/// Whether a run of a case is as told, and who entered its gate.
+/// Returns whether a run of a case is as expected, and who entered its gate.
 fn judged_gate<R: Host>(rt: &R, case: &RunCase) -> io::Result<(bool, Entered)> {
     let (finished, entered) = ran_counted(rt, case)?;
     Ok((case.is_told(&finished), entered))
 }
 
-/// Tells a case, and how many tunes entered its gate how often.
+/// Reports a case, and how many tunes entered its gate how often.
 fn tell_gate<R: Host>(rt: &R, line: &str) -> io::Result<()> {
     let (name, case) = named_case(rt, line)?;
     let (is_told, entered) = judged_gate(rt, &case)?;
@@ -72,7 +72,7 @@ fn tell_gate<R: Host>(rt: &R, line: &str) -> io::Result<()> {
     )
 }
 
-/// Tells each case of the table `gates`.
+/// Reports each case of the table `gates`.
 fn tell_gates<R: Host>(rt: &R) -> io::Result<()> {
     let table = read_table(rt, "gates")?;
     for line in table.lines() {
@@ -81,7 +81,7 @@ fn tell_gates<R: Host>(rt: &R) -> io::Result<()> {
     Ok(())
 }
 
-/// Tells a case of two tunes that wait for each other, and whether they met.
+/// Reports a case of two tunes that wait for each other, and whether they met.
 fn tell_meeting<R: Host>(rt: &R, line: &str) -> io::Result<()> {
     let (name, case) = named_case(rt, line)?;
     let (finished, have_met) = ran_meeting(rt, &case)?;
@@ -90,7 +90,7 @@ fn tell_meeting<R: Host>(rt: &R, line: &str) -> io::Result<()> {
     println!(rt; "{name}, {met}: {verdict}")
 }
 
-/// Tells each case of the table `meetings`.
+/// Reports each case of the table `meetings`.
 fn tell_meetings<R: Host>(rt: &R) -> io::Result<()> {
     let table = read_table(rt, "meetings")?;
     for line in table.lines() {
@@ -99,7 +99,7 @@ fn tell_meetings<R: Host>(rt: &R) -> io::Result<()> {
     Ok(())
 }
 
-/// Tells each case of the tables, of the books and of the painted programs.
+/// Reports each case of the tables, of the books and of the painted programs.
 pub fn tell_commands<R: Host>(rt: &R) -> io::Result<()> {
     tell_cases(rt)?;
     tell_failing(rt)?;

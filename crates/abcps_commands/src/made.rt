@@ -1,9 +1,9 @@
-//! Inputs that are made, since they are too long to be stored.
+//! Generated inputs, which are too long to be stored.
 
 use std::alloc::{AllocError, Global};
 use std::io;
 
-/// So many times a byte.
+/// Adds a byte a number of times.
 fn put_all(text: &mut Vec<u8>, byte: u8, count: u32) -> Result<(), AllocError> {
     for _ in 0..count {
         text.push(byte)?;
@@ -17,7 +17,7 @@ fn spaces(alloc: Global, count: u32) -> Result<Vec<u8>, AllocError> {
     Ok(text)
 }
 
-/// A book of a tune in free meter, with a line of so many rests and no bar.
+/// Returns a book of a tune in free meter, with a line of this many rests and no bar.
 fn rests(alloc: Global, count: u32) -> Result<Vec<u8>, AllocError> {
     let mut book = Vec::from_slice(alloc, b"X:1\nM:none\nK:C\n")?;
     put_all(&mut book, b'z', count)?;
@@ -25,7 +25,7 @@ fn rests(alloc: Global, count: u32) -> Result<Vec<u8>, AllocError> {
     Ok(book)
 }
 
-/// An input of so many spaces, or of a book of so many rests.
+/// Returns an input of a number of spaces, or of a book of a number of rests.
 pub(crate) fn made(alloc: Global, count: &str, what: &str) -> io::Result<Vec<u8>> {
     let Ok(count) = count.parse::<u32>() else {
         return Err(io::Error::other("a count is no number"));

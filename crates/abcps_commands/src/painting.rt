@@ -1,6 +1,6 @@
-//! Programs on the painting machine, and documents whole: what each paints, or why it halts. In the table
-//! `programs` a line `budget N` stands before a program, and a line with a point alone behind it; the program is
-//! the lines between, joined by LF.
+//! Programs for the painting machine, and whole documents: what each paints, or why it halts. In the table `programs`
+//! a line `budget N` precedes a program, and a line with only a point follows it; the program is the lines between,
+//! joined by LF.
 
 use crate::files::read_file;
 use crate::running::Host;
@@ -10,7 +10,7 @@ use ps_reports::{put_halt, put_pages};
 use std::alloc::Global;
 use std::io;
 
-/// What a run gives, as text.
+/// Returns the result of a run, as text.
 fn told(alloc: Global, program: &[u8], budget: u64) -> Result<Text, Memory> {
     let mut out = Text::new(alloc);
     match run_machine(alloc, program, budget) {
@@ -21,7 +21,7 @@ fn told(alloc: Global, program: &[u8], budget: u64) -> Result<Text, Memory> {
     Ok(out)
 }
 
-/// Runs a program, and prints what it gives.
+/// Runs a program, and prints its result.
 fn tell<R: Host>(rt: &R, program: &[u8], budget: u64) -> io::Result<()> {
     let Ok(out) = told(rt.alloc(), program, budget) else {
         return Err(io::Error::other("no memory"));
@@ -33,13 +33,13 @@ fn tell<R: Host>(rt: &R, program: &[u8], budget: u64) -> io::Result<()> {
     Ok(())
 }
 
-/// The budget that a line gives, where it gives one.
+/// Returns the budget that a line gives, if it gives one.
 fn budget_of(line: &[u8]) -> Option<u64> {
     let digits = line.strip_prefix(b"budget ".as_slice())?;
     std::str::from_utf8(digits).ok()?.parse::<u64>().ok()
 }
 
-/// Runs the programs of a table, and prints each budget and what is given.
+/// Runs the programs of a table, and prints each budget and result.
 fn tell_programs<R: Host>(rt: &R, table: &[u8]) -> io::Result<()> {
     let alloc = rt.alloc();
     let mut program = Vec::new(alloc);

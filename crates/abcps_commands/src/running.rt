@@ -9,15 +9,15 @@ use std::io;
 use std::rt::Files;
 use std::thread::Threads;
 
-/// What a case takes of the runtime: its files and memory, threads for the run, and where to tell of it.
+/// What a case needs from the runtime: its files and memory, threads for the run, and where to report it.
 pub trait Host: Files + AllocGlobal + Print + Threads + Sync {}
 
 impl<R: Files + AllocGlobal + Print + Threads + Sync> Host for R {}
 
-/// How many bytes a source gives in one call.
+/// The number of bytes that a source gives in one call.
 const READ_PIECE: u32 = 16;
 
-/// How many bytes a sink takes in one call.
+/// The number of bytes that a sink takes in one call.
 pub(crate) const PIECE: u32 = 64;
 
 /// A stream of a run.
@@ -28,14 +28,14 @@ pub(crate) enum Stream {
     Errors,
 }
 
-/// How a sink takes bytes: at most so many in one call, and which of its calls fails.
+/// How a sink takes bytes: at most how many in one call, and which of its calls fails.
 #[derive(Clone, Copy)]
 pub(crate) struct Pace {
     pub(crate) piece: u32,
     pub(crate) fails: Option<u64>,
 }
 
-/// How the streams of a run go: which read fails, and how each sink takes bytes.
+/// How the streams of a run behave: which read fails, and how each sink takes bytes.
 #[derive(Clone, Copy)]
 pub(crate) struct Streams {
     pub(crate) read_fails: Option<u64>,
@@ -43,7 +43,7 @@ pub(crate) struct Streams {
     pub(crate) errors: Pace,
 }
 
-/// What a run answered, and its streams after it.
+/// The status of a run, and its streams after it.
 #[derive(Drop)]
 pub(crate) struct Finished {
     pub(crate) status: Status,
@@ -53,7 +53,7 @@ pub(crate) struct Finished {
 }
 
 impl Streams {
-    /// Streams that never fail, and whose sinks take so many bytes in each call.
+    /// Returns streams that never fail, and whose sinks take this many bytes in each call.
     pub(crate) fn sound(piece: u32) -> Streams {
         let pace = Pace { piece, fails: None };
         Streams {
@@ -63,7 +63,7 @@ impl Streams {
         }
     }
 
-    /// Sound streams but for one, which goes at a pace; of the input only which read fails counts.
+    /// Returns sound streams except one, which goes at a pace; for the input only the failing read counts.
     fn with(stream: Stream, pace: Pace) -> Streams {
         let sound = Streams::sound(PIECE);
         match stream {
@@ -82,7 +82,7 @@ impl Streams {
         }
     }
 
-    /// Streams of which one fails at a call.
+    /// Returns streams of which one fails at a call.
     pub(crate) fn failing_at(stream: Stream, call: u64) -> Streams {
         let pace = Pace {
             piece: PIECE,
@@ -91,7 +91,7 @@ impl Streams {
         Streams::with(stream, pace)
     }
 
-    /// Streams of which one sink takes no byte.
+    /// Returns streams of which one sink takes no byte.
     pub(crate) fn taking_none(stream: Stream) -> Streams {
         let pace = Pace {
             piece: 0,
@@ -102,7 +102,7 @@ impl Streams {
 }
 
 impl Finished {
-    /// How often a stream was called.
+    /// Returns how often a stream was called.
     pub(crate) fn calls(&self, stream: Stream) -> u64 {
         match stream {
             Stream::Input => self.input.calls,
@@ -112,7 +112,7 @@ impl Finished {
     }
 }
 
-/// The row of the one number that there may be.
+/// Returns the row of the number, if there is one.
 fn row_of(alloc: Global, number: Option<u64>) -> Result<Row<u64>, AllocError> {
     let mut items = Vec::new(alloc);
     if let Some(number) = number {
@@ -132,12 +132,12 @@ fn sink(alloc: Global, pace: Pace) -> Result<MemSink, AllocError> {
     Ok(MemSink::new(alloc, pace.piece, row_of(alloc, pace.fails)?))
 }
 
-/// A run of a case over such streams, whose tunes enter no gate.
+/// Returns a run of a case over such streams, whose tunes enter no gate.
 pub(crate) fn ran<R: Host>(rt: &R, case: &RunCase, streams: &Streams) -> io::Result<Finished> {
     ran_through(rt, case, streams, &NoGate)
 }
 
-/// A run of a case over such streams, whose tunes enter a gate.
+/// Returns a run of a case over such streams, whose tunes enter a gate.
 pub(crate) fn ran_through<R: Host, G: Gate + Sync>(
     rt: &R,
     case: &RunCase,

@@ -1,5 +1,5 @@
-//! Sets a book of tunes as pages: the words and the standard streams go to the top call, and its
-//! answer is the exit status. Where the words can't be had, the answer is that of `refuse_words`.
+//! Sets a book of tunes as pages: passes the words and the standard streams to the top call, and exits with its
+//! status. If the words can't be obtained, the status is that of `refuse_words`.
 #![tactic(auto)]
 
 use abcps::{NoGate, WordsError, refuse_words, run};
@@ -7,7 +7,7 @@ use eng_io::{StdSink, StdSource};
 use std::env;
 use std::process::ExitCode;
 
-/// The words behind the program's name.
+/// Returns the words after the program's name.
 fn given_words(rt: &HostRuntime) -> Result<Vec<String>, WordsError> {
     let words = env::args(rt)?.skip(1).collect(rt.alloc())?;
     Ok(words)

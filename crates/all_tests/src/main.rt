@@ -1,4 +1,4 @@
-//! Tells the cases of every crate of tests, each over the folder of its name in `data/`: those that read, those of
+//! Reports the cases of every test crate, each over the folder of its name in `data/`: those that read, those of
 //! layout, those that set, and those of commands.
 #![tactic(auto)]
 

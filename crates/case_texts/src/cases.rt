@@ -5,7 +5,7 @@ use crate::report::Report;
 use mus_units::{Memory, Text};
 use std::alloc::Global;
 
-/// A case: the name of a call, the word behind it if there is one, and the input.
+/// A case: the name of a call, the word after it if there is one, and the input.
 #[derive(Clone, Copy)]
 pub struct CallCase<'a> {
     pub call: &'a str,
@@ -13,12 +13,12 @@ pub struct CallCase<'a> {
     pub input: &'a str,
 }
 
-/// Whether a line of a table is a case, and neither empty nor a comment behind `#`.
+/// Returns whether a line of a table is a case: neither empty nor a comment that begins with `#`.
 pub fn is_case(line: &str) -> bool {
     !line.is_empty() && !line.starts_with('#')
 }
 
-/// The case on a line, such as `read_named K | Bb`. What is missing is empty.
+/// Returns the case on a line, such as `read_named K | Bb`. Missing parts are empty.
 pub fn case_of(line: &str) -> CallCase<'_> {
     let (head, input) = cut(line, " |");
     let (call, word) = cut(head, " ");
@@ -29,20 +29,20 @@ pub fn case_of(line: &str) -> CallCase<'_> {
     }
 }
 
-/// The line of a case that is made of a text, and the case: on its line a call and its words, and
-/// behind the line the text.
+/// Returns the line of a case that is a whole text, and the case: the line has a call and its words, and the text
+/// follows it.
 pub fn text_case(text: &str) -> (&str, CallCase<'_>) {
     let (line, input) = cut(text, "\n");
     let (call, word) = cut(line, " ");
     (line, CallCase { call, word, input })
 }
 
-/// What stands before and behind a mark.
+/// Returns the text before and after a mark.
 pub fn cut<'a>(text: &'a str, mark: &str) -> (&'a str, &'a str) {
     text.split_once(mark).unwrap_or((text, ""))
 }
 
-/// At most the first million bytes: no case is longer.
+/// Returns at most the first million bytes: no case is longer.
 pub fn within_limit(bytes: &[u8]) -> &[u8]
     ensures { length result.now ≤ 1000000 }
 {
@@ -50,8 +50,8 @@ pub fn within_limit(bytes: &[u8]) -> &[u8]
     front
 }
 
-/// The lines that tell of a case: its own line, and what came of it in visible ASCII, of which each
-/// line begins with `begin`.
+/// Returns the report lines of a case: its own line, and its value in visible ASCII, each line of which begins with
+/// `begin`.
 pub fn told(alloc: Global, line: &str, begin: &[u8], value: &[u8]) -> Result<Text, Memory> {
     let mut out = Report::new(alloc);
     out.append(line.as_bytes())?;

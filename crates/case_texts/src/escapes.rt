@@ -2,7 +2,7 @@ use crate::report::Report;
 use mus_units::{Memory, Text};
 use std::alloc::Global;
 
-/// How far an escape has been read.
+/// How much of an escape has been read.
 #[derive(Clone, Copy)]
 enum Escape {
     Outside,
@@ -11,8 +11,8 @@ enum Escape {
     HexDigit(u8),
 }
 
-/// The bytes that a text says: `\n`, `\r`, `\t`, `\\` and `\x` with two digits in lower case
-/// stand for a byte, and every other byte stands for itself.
+/// Returns the bytes that a text says: `\n`, `\r`, `\t`, `\\` and `\x` with two lower-case digits denote a byte, and
+/// every other byte denotes itself.
 pub fn unescaped(alloc: Global, text: &[u8]) -> Result<Text, Memory> {
     let mut out = Text::new(alloc);
     let mut escape = Escape::Outside;
@@ -33,13 +33,13 @@ fn put_read(out: &mut Text, escape: Escape, byte: u8) -> Result<Escape, Memory> 
     }
 }
 
-/// Adds a byte with which an escape ends.
+/// Adds a byte that ends an escape.
 fn put_whole(out: &mut Text, byte: u8) -> Result<Escape, Memory> {
     out.push(byte)?;
     Ok(Escape::Outside)
 }
 
-/// The byte that a letter behind a backslash names.
+/// Returns the byte that a letter after a backslash names.
 fn named(letter: u8) -> u8 {
     match letter {
         b'n' => b'\n',
@@ -57,8 +57,7 @@ fn digit(byte: u8) -> u8 {
     }
 }
 
-/// Adds a byte in visible ASCII, as `unescaped` reads it, but for a line end, for which what begins
-/// a line is added.
+/// Adds a byte in visible ASCII, as `unescaped` reads it. For a line end it adds the text that begins a line instead.
 pub fn put_shown(out: &mut Report, begin: &[u8], byte: u8) -> Result<(), Memory> {
     match byte {
         b'\n' => out.append(begin),

@@ -2,7 +2,7 @@ use crate::report::Report;
 use abc_lines::{Fault, FaultKind, TuneError};
 use mus_units::Memory;
 
-/// Adds a fault as its kind and its place, or hands on want of memory.
+/// Adds a fault as its kind and its place, or passes out of memory on.
 pub fn put_fault(out: &mut Report, error: TuneError) -> Result<(), Memory> {
     match error {
         TuneError::Fault(fault) => put_placed(out, fault),

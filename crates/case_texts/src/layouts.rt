@@ -1,4 +1,4 @@
-//! What a layout is printed as.
+//! Layouts as text.
 
 use crate::Report;
 use lay_breaks::{Breaking, Span};
@@ -6,7 +6,7 @@ use lay_pages::Heights;
 use lay_springs::Placed;
 use mus_units::Memory;
 
-/// Adds a force, whether the system is ragged, and where its columns stand.
+/// Adds a force, whether the system is ragged, and where its columns are.
 pub fn put_placed(out: &mut Report, placed: &Placed) -> Result<(), Memory> {
     out.next_number(b"force ", placed.force)?;
     out.flag(placed.ragged, b"ragged")?;
@@ -35,7 +35,7 @@ pub fn put_no_way(out: &mut Report, reached: u32) -> Result<(), Memory> {
     out.tell(format_args!("no way {reached}\n"))
 }
 
-/// Adds how staves are stacked: their bases, and the height of them all.
+/// Adds how staves are stacked: their bases, and their total height.
 pub fn put_heights(out: &mut Report, heights: &Heights) -> Result<(), Memory> {
     out.next(b"bases")?;
     out.tell_all(heights.bases.as_slice())?;

@@ -1,5 +1,5 @@
-//! How the crates of tests write: a case on a line, bytes in visible ASCII, and the values that the lower
-//! crates share, each in one form. Nothing here is promised; what is written is compared as a whole.
+//! How the test crates write: a case on a line, bytes in visible ASCII, and the values that the lower crates share,
+//! each in one form. Nothing here has a contract; the output is compared as a whole.
 #![tactic(auto)]
 
 pub mod cases;

@@ -5,7 +5,8 @@ use mus_units::Memory;
 use std::sync::atomic::AtomicBool;
 use std::sync::atomic::Ordering::SeqCst;
 
-/// Where each of two waits until the other has come, so many turns at most; it keeps whether it has.
+/// A place where each of two waits, for a limited number of turns, until the other has come; it records whether it
+/// has.
 #[derive(Drop)]
 pub struct Meeting {
     turns: u32,
@@ -40,7 +41,7 @@ impl Meeting {
         self.met[0].load(SeqCst) && self.met[1].load(SeqCst)
     }
 
-    /// Adds of each whether it met the other.
+    /// Adds for each whether it met the other.
     pub fn put_met(&self, out: &mut Report) -> Result<(), Memory> {
         for met in &self.met {
             out.tell(if met.load(SeqCst) { "met" } else { "alone" })?;

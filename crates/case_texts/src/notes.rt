@@ -8,7 +8,7 @@ pub fn put_pitch(out: &mut Report, pitch: Pitch) -> Result<(), Memory> {
     out.show(pitch.octave)
 }
 
-/// Adds a head as its letter, its octave and its sign, and `-` where it is tied: `F5^-`.
+/// Adds a head as its letter, its octave and its sign, and `-` if it is tied: `F5^-`.
 pub fn put_head(out: &mut Report, head: Head) -> Result<(), Memory> {
     put_pitch(out, head.pitch)?;
     if let Some(sign) = head.sign {

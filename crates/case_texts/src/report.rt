@@ -2,7 +2,7 @@ use mus_units::{Memory, Text};
 use std::alloc::Global;
 use std::fmt::Display;
 
-/// What is told of a case: a text that grows, and the memory that it grows in.
+/// The report on a case: a text that grows, and the memory that it grows in.
 #[derive(Drop)]
 pub struct Report {
     pub alloc: Global,
@@ -10,7 +10,7 @@ pub struct Report {
 }
 
 impl Report {
-    /// The empty report.
+    /// Returns the empty report.
     pub fn new(alloc: Global) -> Report {
         Report {
             alloc,
@@ -37,7 +37,7 @@ impl Report {
         self.append(word)
     }
 
-    /// Adds a word at the begin of a line, which is a new one unless the report is empty.
+    /// Adds a word at the beginning of a line, which is a new one unless the report is empty.
     pub fn line(&mut self, word: &[u8]) -> Result<(), Memory> {
         if self.text.len() > 0 {
             self.push(b'\n')?;
@@ -50,7 +50,7 @@ impl Report {
         self.push(b'\n')
     }
 
-    /// Adds a word as `next` does, where it holds.
+    /// Adds a word as `next` does, if the condition holds.
     pub fn flag(&mut self, holds: bool, word: &[u8]) -> Result<(), Memory> {
         if holds { self.next(word) } else { Ok(()) }
     }
@@ -66,7 +66,7 @@ impl Report {
         self.show(value)
     }
 
-    /// Adds values as `tell` does, one behind another.
+    /// Adds values as `tell` does, one after another.
     pub fn tell_all<T: Display>(&mut self, values: &[T]) -> Result<(), Memory> {
         for value in values {
             self.tell(value)?;
@@ -74,13 +74,13 @@ impl Report {
         Ok(())
     }
 
-    /// Adds a word as `next` does, and a number behind it.
+    /// Adds a word as `next` does, and a number after it.
     pub fn next_number<T: Display + Drop>(&mut self, word: &[u8], number: T) -> Result<(), Memory> {
         self.next(word)?;
         self.show(number)
     }
 
-    /// Adds a word as `line` does, and a number behind it.
+    /// Adds a word as `line` does, and a number after it.
     pub fn line_number<T: Display + Drop>(&mut self, word: &[u8], number: T) -> Result<(), Memory> {
         self.line(word)?;
         self.show(number)

@@ -7,14 +7,13 @@ use std::io::Write;
 use std::rt::Files;
 use std::{fs, io};
 
-/// What a crate of tests answers to its cases.
+/// The answers of a test crate to its cases.
 pub trait Answers {
     /// Adds the value of a case's call on its input.
     fn put_answer(&self, out: &mut Report, case: CallCase<'_>, input: &[u8]) -> Result<(), Memory>;
 }
 
-/// Tells the cases of tables, which are files, one after another: each case's line, and below it
-/// the value that comes of it.
+/// Reports the cases of tables, which are files, one after another: each case's line, with the case's value below it.
 pub fn tell_tables<R: Files + Print + AllocGlobal, A: Answers>(
     rt: &R,
     answers: &A,
@@ -40,7 +39,7 @@ fn tell_cases<R: Print + AllocGlobal, A: Answers>(
     Ok(())
 }
 
-/// Writes what is told of a case.
+/// Writes the report on a case.
 pub fn put_out<R: Print>(rt: &R, told: Result<Text, Memory>) -> io::Result<()> {
     match told {
         Ok(text) => io::writer(rt).write_all(text.as_slice()),
@@ -48,7 +47,7 @@ pub fn put_out<R: Print>(rt: &R, told: Result<Text, Memory>) -> io::Result<()> {
     }
 }
 
-/// A case's line, and its value below it.
+/// Returns a case's line, with its value below it.
 fn answer<A: Answers>(alloc: Global, answers: &A, line: &str) -> Result<Text, Memory> {
     let case = case_of(line);
     let input = unescaped(alloc, case.input.as_bytes())?;

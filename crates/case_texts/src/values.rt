@@ -1,7 +1,7 @@
 use crate::report::Report;
 use mus_units::{Alter, Clef, Frac, Letter, Memory, Meter, Sign, Spread, Wish};
 
-/// Adds a word and a text behind it.
+/// Adds a word and a text after it.
 pub fn put_text(out: &mut Report, name: &[u8], text: &[u8]) -> Result<(), Memory> {
     out.next(name)?;
     out.next(text)
@@ -20,7 +20,7 @@ pub fn put_letter(out: &mut Report, letter: Letter) -> Result<(), Memory> {
     })
 }
 
-/// The letter of a name, and C for any other text.
+/// Returns the letter of a name, and C for any other text.
 pub fn letter_named(name: &str) -> Letter {
     match name {
         "D" => Letter::D,
@@ -33,7 +33,7 @@ pub fn letter_named(name: &str) -> Letter {
     }
 }
 
-/// The name of an alteration, which is nothing but a mark.
+/// Returns the name of an alteration, which is only a mark.
 pub fn alter_name(alter: Alter) -> &'static [u8] {
     match alter {
         Alter::Flat2 => b"bb",
@@ -44,7 +44,7 @@ pub fn alter_name(alter: Alter) -> &'static [u8] {
     }
 }
 
-/// The alteration of a name, and a natural for any other text.
+/// Returns the alteration of a name, and a natural for any other text.
 pub fn alter_named(name: &str) -> Alter {
     match name {
         "bb" => Alter::Flat2,
@@ -55,7 +55,7 @@ pub fn alter_named(name: &str) -> Alter {
     }
 }
 
-/// Adds a word and signs behind it, such as `F# Bb C=`.
+/// Adds a word and signs after it, such as `F# Bb C=`.
 pub fn put_signs(out: &mut Report, name: &[u8], signs: &[Sign]) -> Result<(), Memory> {
     out.next(name)?;
     for sign in signs {
@@ -76,7 +76,7 @@ pub fn put_clef(out: &mut Report, clef: Clef) -> Result<(), Memory> {
     })
 }
 
-/// The clef of a name, and the treble clef for any other text.
+/// Returns the clef of a name, and the treble clef for any other text.
 pub fn clef_named(name: &str) -> Clef {
     match name {
         "bass" => Clef::Bass,
@@ -96,7 +96,7 @@ pub fn put_meter(out: &mut Report, meter: Meter) -> Result<(), Memory> {
     }
 }
 
-/// Adds a word and a fraction behind it.
+/// Adds a word and a fraction after it.
 pub fn put_frac(out: &mut Report, name: &[u8], frac: Frac) -> Result<(), Memory> {
     out.next(name)?;
     out.tell(format_args!("{}/{}", frac.num, frac.den))
@@ -111,7 +111,7 @@ pub fn put_spread(out: &mut Report, spread: Spread) -> Result<(), Memory> {
     })
 }
 
-/// Adds `stem` and the way that the stems of a voice are asked to go.
+/// Adds `stem` and the direction that the stems of a voice are asked to take.
 pub fn put_wish(out: &mut Report, wish: Wish) -> Result<(), Memory> {
     out.next(match wish {
         Wish::Auto => b"stem auto",
@@ -120,7 +120,7 @@ pub fn put_wish(out: &mut Report, wish: Wish) -> Result<(), Memory> {
     })
 }
 
-/// The number that a text says, or 0.
+/// Returns the number that a text says, or 0.
 pub fn number_of(text: &str) -> u64 {
     text.parse::<u64>().unwrap_or(0)
 }

@@ -12,7 +12,7 @@ use mus_laid::{StaffMarks, SystemMarks};
 use mus_units::{Memory, Row};
 use std::alloc::Global;
 
-/// A staff by its line: how low and how high it reaches, at least 0 and 2000 u.
+/// Returns a staff by its line: how low and how high it reaches, at least 0 and 2000 u.
 fn staff_of(alloc: Global, line: &str) -> Result<StaffMarks, Memory> {
     let numbers = numbers_of(alloc, line)?;
     Ok(StaffMarks {
@@ -30,7 +30,7 @@ fn staves_of(alloc: Global, text: &str) -> Result<Row<StaffMarks>, Memory> {
     Ok(staves)
 }
 
-/// How far each staff keeps from the one before it, by its line; of the first it says nothing.
+/// Returns how far each staff keeps from the one before it, by its line; the number of the first is ignored.
 fn gaps_of(alloc: Global, text: &str) -> Result<Row<u32>, Memory> {
     let mut gaps = Row::new(alloc);
     for line in text.lines() {
@@ -39,7 +39,7 @@ fn gaps_of(alloc: Global, text: &str) -> Result<Row<u32>, Memory> {
     Ok(gaps)
 }
 
-/// Whether each staff covers its lines.
+/// Returns whether each staff covers its lines.
 fn are_good_staves(staves: &[StaffMarks]) -> bool
     ensures { IsTrue result → AreGoodStaves staves.now }
 {
@@ -51,7 +51,7 @@ fn are_good_staves(staves: &[StaffMarks]) -> bool
     true
 }
 
-/// Staves under one another.
+/// Adds staves under one another.
 pub(crate) fn put_stack(out: &mut Report, text: &str) -> Result<(), Memory> {
     let system = SystemMarks {
         a: 0,
@@ -65,7 +65,7 @@ pub(crate) fn put_stack(out: &mut Report, text: &str) -> Result<(), Memory> {
     put_stacked(out, &system, gaps_of(out.alloc, text)?.as_slice())
 }
 
-/// The staves of a system under one another by these gaps, of which the first says nothing.
+/// Adds the staves of a system under one another with these gaps, the first of which is ignored.
 fn put_stacked(out: &mut Report, system: &SystemMarks, gaps: &[u32]) -> Result<(), Memory>
     requires few { length system.now.staves ≤ 16 }
     requires good { AreGoodStaves system.now.staves }
@@ -78,7 +78,7 @@ fn put_stacked(out: &mut Report, system: &SystemMarks, gaps: &[u32]) -> Result<(
     }
 }
 
-/// A block by its line: its height, and 1 where it is tied to the next.
+/// Returns a block by its line: its height, and 1 if it is tied to the next.
 fn block_of(alloc: Global, line: &str) -> Result<Block, Memory> {
     let numbers = numbers_of(alloc, line)?;
     Ok(Block {
@@ -95,7 +95,7 @@ fn blocks_of(alloc: Global, text: &str) -> Result<Row<Block>, Memory> {
     Ok(blocks)
 }
 
-/// Whether no block is lower than nothing or higher than 2^40.
+/// Returns whether no block's height is negative or greater than 2^40.
 fn are_good_blocks(blocks: &[Block]) -> bool
     ensures { IsTrue result → AreGoodBlocks blocks.now }
 {
@@ -107,7 +107,7 @@ fn are_good_blocks(blocks: &[Block]) -> bool
     true
 }
 
-/// What pages of these groups cost, where each fits on a page that is at most 2^26 u high.
+/// Returns the costs of pages of these groups, if each fits on a page that is at most 2^26 u high.
 fn costs_of(alloc: Global, high: u32, groups: &[Block]) -> Result<Option<PageCosts>, Memory>
     requires { high ≤ 2 ^ 26 }
     ensures { IfOk result (λ o. IfSome o (λ costs. length costs.heights ≡ length groups.now)) }
@@ -122,7 +122,7 @@ fn costs_of(alloc: Global, high: u32, groups: &[Block]) -> Result<Option<PageCos
     Ok(Some(PageCosts { heights, high }))
 }
 
-/// The breaking of groups into pages of a height that costs least.
+/// Adds the breaking of groups into pages of a height that costs least.
 fn put_costs(out: &mut Report, high: u32, groups: &[Block]) -> Result<(), Memory>
     requires high { high ≤ 2 ^ 26 }
     requires few { length groups.now ≤ 1000 }
@@ -144,7 +144,7 @@ fn put_spots(out: &mut Report, spots: &[Spot]) -> Result<(), Memory> {
     Ok(())
 }
 
-/// Where blocks stand on pages of a height: a line for each, with its page and its top.
+/// Adds where blocks are on pages of a height: a line for each, with its page and its top.
 pub(crate) fn put_fill(out: &mut Report, words: &str, text: &str) -> Result<(), Memory> {
     let alloc = out.alloc;
     let high = count_at(&numbers_of(alloc, words)?, 0);
@@ -155,7 +155,7 @@ pub(crate) fn put_fill(out: &mut Report, words: &str, text: &str) -> Result<(), 
     put_filled(out, fill(alloc, blocks.as_slice(), high))
 }
 
-/// What pages of groups cost, and where these stand on even pages of a height.
+/// Adds the costs of pages of groups, and where the groups are on even pages of a height.
 pub(crate) fn put_even(out: &mut Report, words: &str, text: &str) -> Result<(), Memory> {
     let alloc = out.alloc;
     let high = count_at(&numbers_of(alloc, words)?, 0);
@@ -167,7 +167,7 @@ pub(crate) fn put_even(out: &mut Report, words: &str, text: &str) -> Result<(), 
     put_filled(out, fill_even(alloc, blocks.as_slice(), high))
 }
 
-/// Where blocks stand, or why they don't.
+/// Adds where blocks are, or why they have no place.
 fn put_filled(out: &mut Report, filled: Result<Row<Spot>, PageError>) -> Result<(), Memory> {
     match filled {
         Ok(spots) => put_spots(out, spots.as_slice()),

@@ -21,7 +21,7 @@ use case_texts::{CallCase, Report};
 use mus_units::Memory;
 use std::thread::Threads;
 
-/// The value of a case's call.
+/// Adds the value of a case's call.
 pub(crate) fn put_answer<R: Threads + Sync>(
     rt: &R,
     out: &mut Report,
@@ -34,7 +34,7 @@ pub(crate) fn put_answer<R: Threads + Sync>(
     }
 }
 
-/// The value of a call of the layout or on blocks.
+/// Adds the value of a call of the layout or on blocks.
 fn put_layout_call(out: &mut Report, case: CallCase<'_>) -> Result<(), Memory> {
     match case.call {
         "least" => put_least(out, case.word, case.input),
@@ -47,7 +47,7 @@ fn put_layout_call(out: &mut Report, case: CallCase<'_>) -> Result<(), Memory> {
     }
 }
 
-/// The value of a call on pages.
+/// Adds the value of a call on pages.
 fn put_page_call(out: &mut Report, case: CallCase<'_>) -> Result<(), Memory> {
     match case.call {
         "glyphs" => put_glyphs(out),
@@ -62,7 +62,7 @@ fn put_page_call(out: &mut Report, case: CallCase<'_>) -> Result<(), Memory> {
     }
 }
 
-/// The value of a call on streams or on words.
+/// Adds the value of a call on streams or on words.
 fn put_stream_call(out: &mut Report, case: CallCase<'_>) -> Result<(), Memory> {
     match case.call {
         "source" => put_source(out, case.word, case.input),

@@ -6,7 +6,7 @@ use gen_book::make;
 use mus_units::{Memory, Spread};
 use std::alloc::Global;
 
-/// The words of a line; a line of `-` has none.
+/// Returns the words of a line; a line of `-` has none.
 fn words_of(alloc: Global, line: &str) -> Result<Vec<String>, Memory> {
     let mut words = Vec::new(alloc);
     if line != "-" {
@@ -66,7 +66,7 @@ fn put_command(out: &mut Report, command: Command) -> Result<(), Memory> {
     }
 }
 
-/// For each line what its words ask for, and how much input may be read for it.
+/// Adds for each line what its words ask for, and how much input may be read for it.
 pub(crate) fn put_commands(out: &mut Report, text: &str) -> Result<(), Memory> {
     for line in text.lines() {
         let words = words_of(out.alloc, line)?;
@@ -82,7 +82,7 @@ pub(crate) fn put_commands(out: &mut Report, text: &str) -> Result<(), Memory> {
     out.next(usage())
 }
 
-/// The generated book of so many tunes: how many bytes it has, its front and its end.
+/// Adds the generated book of a number of tunes: how many bytes it has, its beginning and its end.
 pub(crate) fn put_made(out: &mut Report, tunes: u32) -> Result<(), Memory> {
     if tunes < 1 || tunes > 500 {
         return out.next(b"no book\n");

@@ -1,4 +1,4 @@
-//! Documents written in steps and whole, and read.
+//! Documents that are written in steps and whole, and documents that are read.
 
 ghost use Rattle.std.specs.Prelude.{◌≡◌, []};
 
@@ -12,10 +12,10 @@ use ps_text::{Frame, Item, Page, Sheet, Staff, put_page, put_prolog, put_trailer
 use ps_write::{DocError, begin, finish, page, send_pages, write_document};
 use std::alloc::Global;
 
-/// The line that ends what is the same in every document.
+/// The line that ends the part that is the same in every document.
 const END_OF_PROLOG: &[u8] = b"%%EndProlog\n";
 
-/// The paper of the documents that are written and read.
+/// Returns the paper of the documents that are written and read.
 fn paper() -> Frame
     ensures { result ≡ record { wide = 595; high = 842; left = 5100; bottom = 2800; scale = 100 } }
 {
@@ -36,7 +36,7 @@ fn empty_page(alloc: Global) -> Page
     }
 }
 
-/// The paper of these numbers.
+/// Returns the paper of these numbers.
 fn paper_of(alloc: Global, words: &str) -> Result<Frame, Memory> {
     let numbers = numbers_of(alloc, words)?;
     Ok(Frame {
@@ -48,7 +48,7 @@ fn paper_of(alloc: Global, words: &str) -> Result<Frame, Memory> {
     })
 }
 
-/// The text of a document of one empty page on the paper of these numbers.
+/// Adds the text of a document of one empty page on the paper of these numbers.
 pub(crate) fn put_document(out: &mut Report, words: &str) -> Result<(), Memory> {
     let alloc = out.alloc;
     let frame = paper_of(alloc, words)?;
@@ -57,7 +57,8 @@ pub(crate) fn put_document(out: &mut Report, words: &str) -> Result<(), Memory> 
     put_trailer(&mut out.text, 1)
 }
 
-/// A document of two empty pages, by its steps: one that is written as it is made, and one whose text is made before.
+/// Writes a document of two empty pages, step by step: one page written as it is made, and one whose text is made
+/// before.
 fn in_steps(alloc: Global, out: &mut MemSink) -> Result<(), DocError> {
     let w = begin(alloc, &paper(), out)?;
     let w = page(alloc, w, &empty_page(alloc), out)?;
@@ -67,7 +68,7 @@ fn in_steps(alloc: Global, out: &mut MemSink) -> Result<(), DocError> {
     finish(alloc, w, out)
 }
 
-/// A document without a page, by one call.
+/// Writes a document without a page, by one call.
 fn whole(alloc: Global, out: &mut MemSink) -> Result<(), DocError> {
     let sheet = Sheet {
         frame: paper(),
@@ -76,7 +77,7 @@ fn whole(alloc: Global, out: &mut MemSink) -> Result<(), DocError> {
     write_document(alloc, &sheet, out)
 }
 
-/// The part of a document behind its prolog.
+/// Returns the part of a document after its prolog.
 fn behind_prolog(document: &[u8]) -> &[u8] {
     for (place, part) in document.windows(END_OF_PROLOG.len()).enumerate() {
         if part == END_OF_PROLOG {
@@ -87,8 +88,8 @@ fn behind_prolog(document: &[u8]) -> &[u8] {
     &[]
 }
 
-/// A document written to a sink of pieces, whose call of a number fails: how much is said to be written, how
-/// much was taken, and what stands behind the prolog.
+/// Writes a document to a sink of pieces, with one numbered call that fails, and adds how much is reported as
+/// written, how much was taken, and what follows the prolog.
 pub(crate) fn put_written(out: &mut Report, words: &str, in_one: bool) -> Result<(), Memory> {
     let mut sink = sink_of(out.alloc, words)?;
     let written = if in_one {
@@ -106,7 +107,7 @@ fn put_taken(out: &mut Report, taken: &[u8]) -> Result<(), Memory> {
     out.next(behind_prolog(taken))
 }
 
-/// Adds how much is said to be written.
+/// Adds how much is reported as written.
 fn put_sent(out: &mut Report, written: Result<(), DocError>) -> Result<(), Memory> {
     match written {
         Ok(()) => out.next(b"all"),
@@ -156,7 +157,7 @@ fn put_sheet(out: &mut Report, sheet: &Sheet) -> Result<(), Memory> {
     Ok(())
 }
 
-/// The document of a text, behind a prolog if so asked.
+/// Returns the document of a text, after a prolog if asked.
 pub(crate) fn document_of(alloc: Global, behind: bool, text: &str) -> Result<Text, Memory> {
     let mut document = Text::new(alloc);
     if behind {
@@ -166,8 +167,8 @@ pub(crate) fn document_of(alloc: Global, behind: bool, text: &str) -> Result<Tex
     Ok(document)
 }
 
-/// The sheet that a text is read as, or the line at which it is no document. Where `behind` the text stands
-/// behind a prolog.
+/// Adds the sheet that a text is read as, or the line at which it isn't a document. If `behind`, the text follows
+/// a prolog.
 pub(crate) fn put_pages(out: &mut Report, behind: bool, text: &str) -> Result<(), Memory> {
     let document = document_of(out.alloc, behind, text)?;
     put_pages_of(out, document.as_slice())

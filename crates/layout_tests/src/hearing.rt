@@ -1,4 +1,4 @@
-//! Documents behind a prolog, heard.
+//! Documents after a prolog, heard.
 
 use crate::documents::document_of;
 use case_texts::Report;
@@ -6,7 +6,7 @@ use mus_units::{Memory, Row, Spread};
 use ps_read::{Heard, PagesError, hear, put_heads, put_heard, read_document};
 use ps_text::Sheet;
 
-/// How far a sign reaches, by its word.
+/// Returns how far a sign reaches, by its word.
 fn spread_of(word: &str) -> Spread {
     if word == "not" {
         Spread::Not
@@ -26,7 +26,7 @@ fn put_lists(out: &mut Report, lists: &Row<Row<Heard>>) -> Result<(), Memory> {
     Ok(())
 }
 
-/// What a sheet sounds as text, or where a place is named the lists of the tune there.
+/// Adds what a sheet sounds as text, or, if a place is named, the lists of the tune there.
 fn put_sounds(out: &mut Report, sheet: &Sheet, words: &str) -> Result<(), Memory> {
     match words.split_once(' ') {
         None => put_heard(out.alloc, &mut out.text, sheet, spread_of(words)),
@@ -37,7 +37,7 @@ fn put_sounds(out: &mut Report, sheet: &Sheet, words: &str) -> Result<(), Memory
     }
 }
 
-/// What the document of a text that stands behind a prolog sounds.
+/// Adds what the document of a text that follows a prolog sounds.
 pub(crate) fn put_hearing(out: &mut Report, words: &str, text: &str) -> Result<(), Memory> {
     let document = document_of(out.alloc, true, text)?;
     put_heard_pages(out, document.as_slice(), words)

@@ -1,4 +1,4 @@
-//! The calls that do nothing: each has a law for its promise.
+//! The calls that do nothing: the contract of each is a law.
 
 use abcps_words::{asked_is_good, asks_one};
 use lay_breaks::one_is_chosen;

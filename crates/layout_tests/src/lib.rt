@@ -24,7 +24,7 @@ use std::rt::Files;
 use std::thread::Threads;
 use std::{fs, io};
 
-/// A case's line, and behind it the value of its call.
+/// Returns a case's line, followed by the value of its call.
 fn answer<R: Threads + Sync>(rt: &R, alloc: Global, text: &str) -> Result<Text, Memory> {
     let (line, case) = text_case(text);
     let mut value = Report::new(alloc);
@@ -32,7 +32,7 @@ fn answer<R: Threads + Sync>(rt: &R, alloc: Global, text: &str) -> Result<Text, 
     told(alloc, line, b"\n", value.text.as_slice())
 }
 
-/// Tells each case.
+/// Reports each case.
 pub fn tell_layout<R: Files + Print + AllocGlobal + Threads + Sync>(rt: &R) -> io::Result<()> {
     state_laws();
     let cases = fs::read_to_string(rt, "layout/cases")?;

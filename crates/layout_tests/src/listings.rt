@@ -4,7 +4,7 @@ use case_texts::{Report, bytes_of};
 use lay_cert::{CertError, check_listing, put_verdict};
 use mus_units::Memory;
 
-/// Adds the verdicts on a listing, or the line at which the text is none.
+/// Adds the verdicts on a listing, or the line at which the text isn't one.
 pub(crate) fn put_verdicts(out: &mut Report, text: &str) -> Result<(), Memory> {
     let bytes = bytes_of(out.alloc, text)?;
     match check_listing(out.alloc, bytes.as_slice()) {

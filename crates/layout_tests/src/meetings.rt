@@ -1,4 +1,4 @@
-//! Two rows that wait for each other, which is in vain unless they are made side by side.
+//! Two rows that wait for each other, which is in vain unless they are made in parallel.
 
 ghost use Rattle.std.specs.Prelude.{◌≡◌, ◌∷◌, []};
 ghost use Rattle.layout_tests.specs.Meeting.{one_row, row_small};
@@ -34,7 +34,7 @@ impl RowMaker for MeetingRows {
     ghost is_small = { λ _ a row l h. row_small a row l h };
 }
 
-/// The two rows by a number of jobs, and of each whether it met the other.
+/// Adds the two rows by a number of jobs, and for each whether it met the other.
 fn put_rows<R: Threads + Sync>(
     rt: &R,
     out: &mut Report,
@@ -55,7 +55,7 @@ fn put_made(out: &mut Report, made: &Rows) -> Result<(), Memory> {
     Ok(())
 }
 
-/// Adds whether two rows meet by two jobs and by one. By one job the first waits in vain, and the second finds
+/// Adds whether two rows meet with two jobs and with one. With one job the first waits in vain, and the second finds
 /// that the first was begun.
 pub(crate) fn put_meetings<R: Threads + Sync>(rt: &R, out: &mut Report) -> Result<(), Memory> {
     put_rows(rt, out, Jobs { count: 2 }, 200_000_000)?;

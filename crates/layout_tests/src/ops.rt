@@ -5,7 +5,7 @@ use mus_units::{Glyph, Memory, Size, Text, Way};
 use ps_text::{PageMark, read_op, write_op};
 use std::alloc::Global;
 
-/// A mark by its kind and its numbers; of one that has words they are behind the numbers.
+/// Returns a mark by its kind and its numbers; if it has words, they follow the numbers.
 fn mark_of(alloc: Global, kind: &str, words: &str) -> Result<PageMark, Memory> {
     let numbers = numbers_of(alloc, words)?;
     let (x, end) = (number_at(&numbers, 1), number_at(&numbers, 2));
@@ -51,7 +51,7 @@ fn mark_of(alloc: Global, kind: &str, words: &str) -> Result<PageMark, Memory> {
     }
 }
 
-/// The words behind the fourth number.
+/// Returns the words after the fourth number.
 fn words_of(alloc: Global, words: &str) -> Result<Text, Memory> {
     let mut rest = words;
     for _ in 0..4 {
@@ -63,7 +63,7 @@ fn words_of(alloc: Global, words: &str) -> Result<Text, Memory> {
     bytes_of(alloc, rest)
 }
 
-/// The line of a mark on a staff of a height, or that it has none.
+/// Adds the line of a mark on a staff of a height, or that it has none.
 pub(crate) fn put_mark_line(out: &mut Report, mark: &PageMark, y: i64) -> Result<(), Memory> {
     match write_op(out.alloc, mark, y)? {
         Some(line) => out.next(line.as_slice())?,
@@ -72,14 +72,14 @@ pub(crate) fn put_mark_line(out: &mut Report, mark: &PageMark, y: i64) -> Result
     out.end_line()
 }
 
-/// The line of a mark on a staff, of the height that the first number is.
+/// Adds the line of a mark on a staff whose height is the first number.
 pub(crate) fn put_mark(out: &mut Report, kind: &str, words: &str) -> Result<(), Memory> {
     let y = number_at(&numbers_of(out.alloc, words)?, 0);
     let mark = mark_of(out.alloc, kind, words)?;
     put_mark_line(out, &mark, y)
 }
 
-/// For each line the line of the mark that it is read as on a staff of a height.
+/// Adds for each line the line of the mark that it is read as, on a staff of a height.
 pub(crate) fn put_read(out: &mut Report, words: &str, text: &str) -> Result<(), Memory> {
     let y = number_at(&numbers_of(out.alloc, words)?, 0);
     for line in text.lines() {

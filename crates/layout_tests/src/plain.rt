@@ -1,4 +1,4 @@
-//! Columns in two lanes, placed and pressed, and the badness of forces.
+//! Columns in two lanes, placed at a force, and the badness of forces.
 
 ghost use Rattle.std.specs.Prelude.{◌≤◌, ◌<◌, length};
 
@@ -13,8 +13,8 @@ use std::alloc::Global;
 /// The gaps of the two lanes.
 const GAPS: [u32; 2] = [100, 300];
 
-/// A column by its line: how far it reaches to the left and to the right, in how many lanes it stands, 1 or
-/// 2, and its natural length.
+/// Returns a column by its line: how far it reaches to the left and to the right, how many lanes it is in, 1 or 2,
+/// and its natural length.
 fn column_of(alloc: Global, line: &str) -> Result<Column, Memory> {
     let numbers = numbers_of(alloc, line)?;
     let reach = Some(Reach {
@@ -54,7 +54,7 @@ fn put_force(out: &mut Report, force: Option<u16>) -> Result<(), Memory> {
     out.end_line()
 }
 
-/// The least places of columns at a force.
+/// Adds the least places of columns at a force.
 fn put_places(out: &mut Report, columns: &[Column], force: u16) -> Result<(), Memory>
     requires some { 0 < length columns.now }
     requires few { length columns.now ≤ 200000 }
@@ -64,8 +64,8 @@ fn put_places(out: &mut Report, columns: &[Column], force: u16) -> Result<(), Me
     out.end_line()
 }
 
-/// The greatest force of 0 to `most` at which columns end within a width; or the columns set to it, where it
-/// is told whether they are the last.
+/// Adds the greatest force of 0 to `most` at which columns end within a width; or the columns set to the width,
+/// given whether they are the last.
 fn put_fit(
     out: &mut Report,
     columns: &[Column],
@@ -91,7 +91,7 @@ fn put_fit(
     put_placed(out, &set)
 }
 
-/// The value of a call on plain columns: `place F`, `fit W`, `within W M` with the greatest force that may be
+/// Adds the value of a call on plain columns: `place F`, `fit W`, `within W M` with the greatest force that may be
 /// tried, `set W` and `last W`.
 pub(crate) fn put_plain(out: &mut Report, case: CallCase<'_>) -> Result<(), Memory> {
     let numbers = numbers_of(out.alloc, case.word)?;
@@ -122,7 +122,7 @@ fn put_of_columns(
     }
 }
 
-/// The badness of a span at a force, and of a last one.
+/// Adds the badness of a span at a force, and of a last one.
 pub(crate) fn put_badness(out: &mut Report, words: &str) -> Result<(), Memory> {
     let force = u16::try_from(count_at(&numbers_of(out.alloc, words)?, 0)).unwrap_or(0);
     out.tell_all(&[badness(force, false), badness(force, true)])?;

@@ -7,19 +7,20 @@ use eng_io::{
 use mus_units::{Memory, Row, Text};
 use std::alloc::Global;
 
-/// The number of a call that fails.
+/// Returns the number of a call that fails, as a row.
 fn failing(alloc: Global, call: i64) -> Result<Row<u64>, Memory> {
     Row::from_slice(alloc, &[u64::try_from(call).unwrap_or(0)])
 }
 
-/// The source of a text by its numbers: the size of its pieces, and the number of its call that fails.
+/// Returns the source of a text by its numbers: the size of its pieces, and the number of its call that fails.
 fn source_of(alloc: Global, numbers: &Row<i64>, text: &str) -> Result<MemSource, Memory> {
     let bytes = Text::from_slice(alloc, text.as_bytes())?;
     let fails = failing(alloc, number_at(numbers, 1))?;
     Ok(MemSource::new(bytes, count_at(numbers, 0).max(1), fails))
 }
 
-/// A text read to its end from a source of pieces, whose call of a number fails, within a limit.
+/// Reads a text to its end, within a limit, from a source of pieces with one numbered call that fails, and adds the
+/// result.
 pub(crate) fn put_source(out: &mut Report, words: &str, text: &str) -> Result<(), Memory> {
     let numbers = numbers_of(out.alloc, words)?;
     let mut source = source_of(out.alloc, &numbers, text)?;
@@ -38,8 +39,8 @@ fn put_taken(out: &mut Report, taken: Result<Text, ReadError>) -> Result<(), Mem
     out.end_line()
 }
 
-/// A text written to a sink of pieces, whose call of a number fails: how much is said to be written, what was
-/// taken, and how many other calls failed.
+/// Writes a text to a sink of pieces, with one numbered call that fails, and adds how much is reported as written,
+/// what was taken, and how many other calls failed.
 pub(crate) fn put_sink(out: &mut Report, words: &str, text: &str) -> Result<(), Memory> {
     let mut sink = sink_of(out.alloc, words)?;
     match write_all(&mut sink, text.as_bytes()) {
@@ -55,7 +56,7 @@ fn put_left(out: &mut Report, sink: &MemSink) -> Result<(), Memory> {
     out.end_line()
 }
 
-/// The sink of some numbers: the size of its pieces, and the number of its call that fails.
+/// Returns the sink of some numbers: the size of its pieces, and the number of its call that fails.
 pub(crate) fn sink_of(alloc: Global, words: &str) -> Result<MemSink, Memory> {
     let numbers = numbers_of(alloc, words)?;
     let fails = failing(alloc, number_at(&numbers, 1))?;
@@ -70,7 +71,8 @@ fn put_passed<E: Drop>(out: &mut Report, passed: Result<usize, E>) -> Result<(),
     }
 }
 
-/// A text passed on by streams of std: two bytes of it read, all of it written, and the faults of both.
+/// Passes a text on by streams of std, and adds the result: two bytes of it read, all of it written, and the faults
+/// of both.
 pub(crate) fn put_streams(out: &mut Report, text: &str) -> Result<(), Memory> {
     let mut source = StdSource::new(text.as_bytes());
     let mut pair = [0u8; 2];

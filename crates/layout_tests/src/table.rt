@@ -1,4 +1,4 @@
-//! Costs kept as rows, and what is chosen among their breakings.
+//! Costs kept as rows, and the choice among their breakings.
 
 ghost use Rattle.std.specs.Prelude.{length, refl};
 ghost use Rattle.layout_tests.specs.Table.{capped_cost, is_marked, capped_stop, capped_small};
@@ -8,8 +8,8 @@ use lay_breaks::{BreakError, Costs, least};
 use mus_units::{Memory, Row};
 use std::alloc::Global;
 
-/// Row a has the costs of the spans from bar a on, and mark b tells whether bar b + 1 is forced. A cost past
-/// 2^40 counts as 2^40.
+/// Row a has the costs of the spans from bar a on, and mark b says whether bar b + 1 is forced. A cost past 2^40
+/// counts as 2^40.
 #[derive(Drop)]
 struct Table {
     rows: Row<Row<u64>>,
@@ -46,7 +46,7 @@ impl Costs for Table {
     ghost begins_free = { λ s. refl };
 }
 
-/// The costs of a line; a line of `-` has none.
+/// Returns the costs of a line; a line of `-` has none.
 fn row_of(alloc: Global, line: &str) -> Result<Row<u64>, Memory> {
     let mut row = Row::new(alloc);
     if line != "-" {
@@ -65,7 +65,7 @@ fn rows_of(alloc: Global, text: &str) -> Result<Row<Row<u64>>, Memory> {
     Ok(rows)
 }
 
-/// The table of a text, and a mark for each number of the words: 1 where its bar is forced.
+/// Returns the table of a text, and a mark for each number of the words: 1 if its bar is forced.
 fn table_of(alloc: Global, words: &str, text: &str) -> Result<Table, Memory> {
     let mut marks = Row::new(alloc);
     for number in numbers_of(alloc, words)?.as_slice() {
@@ -77,7 +77,7 @@ fn table_of(alloc: Global, words: &str, text: &str) -> Result<Table, Memory> {
     })
 }
 
-/// What is chosen among the breakings of a table.
+/// Adds the choice among the breakings of a table.
 pub(crate) fn put_least(out: &mut Report, words: &str, text: &str) -> Result<(), Memory> {
     let table = table_of(out.alloc, words, text)?;
     let bars = table.rows.len();

@@ -27,8 +27,8 @@ fn put_all(out: &mut Report, arcs: &[Arc]) -> Result<(), Memory> {
     Ok(())
 }
 
-/// Adds what a system of the measures a to b - 1, which the argument names, draws of a slur of
-/// the measures that the input names.
+/// Adds what a system of the measures a to b - 1, named by the argument, draws of a slur of the measures that the
+/// input names.
 pub(crate) fn put_piece(out: &mut Report, word: &str, input: &str) -> Result<(), Memory> {
     let (a, b) = measures_named(word);
     let (from, to) = measures_named(input);

@@ -49,7 +49,7 @@ fn put_asked(out: &mut Report, case: CallCase<'_>, score: &Score) -> Result<(), 
     }
 }
 
-/// Adds whether a tune has a score where `@` stands for so many chords, or its fault.
+/// Adds whether a tune has a score if a number of chords replaces each `@`, or its fault.
 fn put_crowd(out: &mut Report, word: &str, input: &[u8]) -> Result<(), Memory> {
     let book = crowded(out.alloc, number_of(word), input)?;
     put_score_or_fault(out, book.as_slice())
@@ -63,7 +63,7 @@ fn put_score_or_fault(out: &mut Report, book: &[u8]) -> Result<(), Memory> {
     }
 }
 
-/// Adds the score of a tune moved by so many semitones, or that it can't be moved, or its fault.
+/// Adds the score of a tune moved by a number of semitones, or that it can't be moved, or its fault.
 fn put_moved(out: &mut Report, word: &str, input: &[u8]) -> Result<(), Memory> {
     match tune_of(out.alloc, input, false) {
         Ok(tune) => put_moved_tune(out, tune, word.parse::<i8>().unwrap_or(0)),

@@ -5,14 +5,14 @@ use case_texts::{Report, within_limit};
 use mus_units::{Memory, Text};
 use std::alloc::Global;
 
-/// The book that some bytes are.
+/// Returns the book that some bytes are.
 pub(crate) fn book_of(alloc: Global, bytes: &[u8]) -> Result<Book, Memory>
     ensures { IfOk result (λ book. IsGoodBook book) }
 {
     cut_book(alloc, within_limit(bytes))
 }
 
-/// A line of some bytes, which is line 7.
+/// Returns a line of some bytes, with line number 7.
 pub(crate) fn line_of(alloc: Global, bytes: &[u8]) -> Result<Line, Memory>
     ensures { IfOk result (λ line. IsGoodLine line) }
 {
@@ -22,8 +22,8 @@ pub(crate) fn line_of(alloc: Global, bytes: &[u8]) -> Result<Line, Memory>
     })
 }
 
-/// Adds a book line by line: each line as its number and its text, and a tune's lines behind
-/// `#` and its place among the tunes.
+/// Adds a book line by line: each line as its number and its text, and a tune's lines after `#` and its number in the
+/// book.
 pub(crate) fn put_book(out: &mut Report, bytes: &[u8]) -> Result<(), Memory> {
     let book = book_of(out.alloc, bytes)?;
     put_lines(out, book.header.as_slice())?;
@@ -64,7 +64,7 @@ fn put_kind(out: &mut Report, kind: LineKind) -> Result<(), Memory> {
     }
 }
 
-/// Adds what a line has behind its first two bytes, between angle brackets.
+/// Adds the text of a line after its first two bytes, between angle brackets.
 pub(crate) fn put_field_text(out: &mut Report, bytes: &[u8]) -> Result<(), Memory> {
     out.push(b'<')?;
     out.append(field_text(&line_of(out.alloc, bytes)?))?;

@@ -9,7 +9,7 @@ use crate::units::{put_parts, put_ticks, put_value_of};
 use case_texts::{Answers, CallCase, Report};
 use mus_units::Memory;
 
-/// The calls that read, and those that make a score or ask of one.
+/// The calls that read, and those that make a score or ask about one.
 pub(crate) struct ReadingCalls;
 
 impl Answers for ReadingCalls {
@@ -40,7 +40,7 @@ fn put_lines(out: &mut Report, case: CallCase<'_>, input: &[u8]) -> Result<(), M
     }
 }
 
-/// Adds the value of a call on lengths, pitches and keys, or of one that makes a score or asks of one.
+/// Adds the value of a call on lengths, pitches and keys, or of one that makes a score or asks about one.
 fn put_value(out: &mut Report, case: CallCase<'_>, input: &[u8]) -> Result<(), Memory> {
     match case.call {
         "value_of" => put_value_of(out, case.input),

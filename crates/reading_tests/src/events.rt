@@ -2,8 +2,7 @@ use case_texts::{Report, put_clef, put_deco, put_head, put_meter, put_signs, put
 use mus_score::{Changes, Event, Look, Mention};
 use mus_units::{Deco, Head, Memory, Text};
 
-/// Adds a line of an event: its id, its heads or its look, its value and its ticks, and what else
-/// stands at it.
+/// Adds a line of an event: its id, its heads or its look, its value and its ticks, and what else belongs to it.
 pub(crate) fn put_event(out: &mut Report, kind: &[u8], event: &Event) -> Result<(), Memory> {
     out.line_number(kind, event.id)?;
     out.next(look_name(event.look))?;
@@ -89,7 +88,7 @@ fn put_mentions(out: &mut Report, mentions: &[Mention]) -> Result<(), Memory> {
     Ok(())
 }
 
-/// Adds the words of an event, each between angle brackets, and `-` for a verse without.
+/// Adds the words of an event, each between angle brackets, and `-` for a verse without a word.
 fn put_words(out: &mut Report, words: &[Option<Text>]) -> Result<(), Memory> {
     for word in words {
         match word {

@@ -8,7 +8,7 @@ use case_texts::{
 use mus_units::Memory;
 use std::alloc::Global;
 
-/// What a line says.
+/// Returns what a line says.
 fn field_of(alloc: Global, bytes: &[u8]) -> Result<Field, TuneError> {
     read_field(alloc, &line_of(alloc, bytes)?)
 }
@@ -48,7 +48,7 @@ fn put_field(out: &mut Report, field: &Field) -> Result<(), Memory> {
     }
 }
 
-/// Adds a field that is kept as written, or `other`.
+/// Adds a field as written, or `other`.
 fn put_written(out: &mut Report, field: &Field) -> Result<(), Memory> {
     match field {
         Field::Words(text) => put_text(out, b"words", text.as_slice()),
@@ -59,7 +59,7 @@ fn put_written(out: &mut Report, field: &Field) -> Result<(), Memory> {
     }
 }
 
-/// Adds `key` and the signs of a whole key, or `adds` and those that are added; then the clef.
+/// Adds `key` and the signs of a whole key, or `adds` and the added signs; then the clef.
 fn put_key_text(out: &mut Report, text: &KeyText) -> Result<(), Memory> {
     match &text.key {
         Some(key) => put_signs(out, b"key", key.signs.as_slice())?,
@@ -71,7 +71,7 @@ fn put_key_text(out: &mut Report, text: &KeyText) -> Result<(), Memory> {
     }
 }
 
-/// Adds `voice`, its id, its clef if it names one, and the way of its stems.
+/// Adds `voice`, its id, its clef if it names one, and its stem direction.
 pub(crate) fn put_voice(out: &mut Report, voice: &VoiceDef) -> Result<(), Memory> {
     put_text(out, b"voice", voice.id.as_slice())?;
     if let Some(clef) = voice.clef {
@@ -80,7 +80,7 @@ pub(crate) fn put_voice(out: &mut Report, voice: &VoiceDef) -> Result<(), Memory
     put_wish(out, voice.stem)
 }
 
-/// Adds `breaks` and the names of those that are on.
+/// Adds `breaks` and the names of the breaks that are on.
 pub(crate) fn put_breaks(out: &mut Report, breaks: Breaks) -> Result<(), Memory> {
     out.next(b"breaks")?;
     out.flag(breaks.eol, b"eol")?;

@@ -1,8 +1,8 @@
-//! Runs the calls that read a book up to its tokens, fields, headers and paper, and those on values,
-//! pitches and keys that they stand on; then those that make a score and those that ask of one: its
-//! events with their durations and onsets, the keys of columns, slurs and ties, syllables on notes, the
-//! score moved. Each line of the tables in its folder is a case: a call, an argument, and an input,
-//! which for a score is mostly a book of one tune. It is written again with the call's value below it.
+//! Runs the calls that read a book up to its tokens, fields, headers and paper, and those on the values, pitches and
+//! keys that they build on; then those that make a score and those that ask about one: its events with their
+//! durations and onsets, the keys of columns, slurs and ties, syllables on notes, the transposed score. Each line of
+//! the tables in its folder is a case: a call, an argument, and an input, which for a score is mostly a book of one
+//! tune. The line is written again with the call's value below it.
 #![tactic(auto)]
 
 mod arcs;
@@ -27,7 +27,7 @@ use case_texts::tell_tables;
 use std::io;
 use std::rt::Files;
 
-/// The tables, in the order in which they are told.
+/// The tables, in the order in which they are reported.
 const TABLES: [&str; 14] = [
     "reading/books",
     "reading/music",
@@ -45,7 +45,7 @@ const TABLES: [&str; 14] = [
     "reading/moves",
 ];
 
-/// Tells each case of the tables.
+/// Reports each case of the tables.
 pub fn tell_reading<R: Files + Print + AllocGlobal>(rt: &R) -> io::Result<()> {
     tell_tables(rt, &ReadingCalls, &TABLES)
 }

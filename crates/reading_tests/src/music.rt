@@ -9,12 +9,12 @@ use case_texts::{Report, number_of, put_fault};
 use mus_units::{Memory, Row, Text};
 use std::alloc::Global;
 
-/// Whether an argument says that an exclamation mark is a line break.
+/// Returns whether an argument says that an exclamation mark is a line break.
 fn is_bang(word: &str) -> bool {
     word == "bang"
 }
 
-/// The tokens of a music line.
+/// Returns the tokens of a music line.
 fn music_of(alloc: Global, word: &str, bytes: &[u8]) -> Result<Row<Placed>, TuneError> {
     read_music(alloc, &line_of(alloc, bytes)?, is_bang(word))
 }
@@ -44,8 +44,8 @@ fn put_end(out: &mut Report, fault: Option<Fault>) -> Result<(), Memory> {
     }
 }
 
-/// Adds the number of tokens of the first part of a music line, which is a text so many times over,
-/// and then those of the second, or the fault.
+/// Adds the number of tokens of the first part of a music line, which is a text repeated a number of times, and then
+/// those of the second, or the fault.
 pub(crate) fn put_line_parts(out: &mut Report, times: &str, bytes: &[u8]) -> Result<(), Memory> {
     let text = repeated(out.alloc, number_of(times), bytes)?;
     put_parts(out, &line_of(out.alloc, text.as_slice())?)

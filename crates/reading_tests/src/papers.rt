@@ -6,7 +6,7 @@ use case_texts::Report;
 use mus_units::Memory;
 use std::alloc::Global;
 
-/// The paper that a book's file header states.
+/// Returns the paper that a book's file header states.
 fn paper_of(alloc: Global, bytes: &[u8]) -> Result<Paper, Memory>
     ensures { IfOk result IsGoodPaper }
 {

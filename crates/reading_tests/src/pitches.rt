@@ -18,7 +18,7 @@ pub(crate) fn put_height(out: &mut Report, word: &str, bytes: &[u8]) -> Result<(
     }
 }
 
-/// The heads of the notes of a line.
+/// Returns the heads of the notes of a line.
 fn heads_of(alloc: Global, bytes: &[u8]) -> Result<Row<Head>, Memory> {
     let front = read_prefix(alloc, &line_of(alloc, bytes)?, false)?;
     let mut heads = Row::new(alloc);
@@ -58,7 +58,7 @@ fn mode_named(name: &str) -> Mode {
     }
 }
 
-/// The number of sharps that a text says, negative for flats.
+/// Returns the number of sharps that a text says, negative for flats.
 fn sharps_of(text: &str) -> i8 {
     text.parse::<i8>().unwrap_or(0)
 }
@@ -69,7 +69,7 @@ pub(crate) fn put_key(out: &mut Report, sharps: &str) -> Result<(), Memory> {
     put_signs(out, b"key", key.signs.as_slice())
 }
 
-/// Adds the key of a number of sharps with further signs laid on it, such as `=F _B`.
+/// Adds the key of a number of sharps with further signs added to it, such as `=F _B`.
 pub(crate) fn put_laid_key(out: &mut Report, sharps: &str, signs: &[u8]) -> Result<(), Memory> {
     let key = key_of(out.alloc, sharps_of(sharps))?;
     match read_key(out.alloc, signs)? {
@@ -85,8 +85,8 @@ fn put_laid(out: &mut Report, key: &Key, adds: &[Sign]) -> Result<(), Memory>
     put_signs(out, b"key", laid.signs.as_slice())
 }
 
-/// Adds the alteration of the last note of a line behind the others: the argument says how far
-/// signs reach and the key's number of sharps, such as `octave 1`.
+/// Adds the alteration of the last note of a line after the others: the argument says how far signs reach and the
+/// key's number of sharps, such as `octave 1`.
 pub(crate) fn put_alteration(out: &mut Report, word: &str, bytes: &[u8]) -> Result<(), Memory> {
     let (reach, sharps) = word.split_once(" ").unwrap_or((word, "0"));
     let spread = read_spread(reach.as_bytes()).unwrap_or(Spread::Pitch);

@@ -53,7 +53,7 @@ fn put_graces(out: &mut Report, graces: &[Event]) -> Result<(), Memory> {
     Ok(())
 }
 
-/// Adds a line for each measure of each voice: the durations of its nodes, and of all together.
+/// Adds a line for each measure of each voice: the durations of its nodes, and their total.
 pub(crate) fn put_durations(out: &mut Report, score: &Score) -> Result<(), Memory>
     requires { IsGoodScore score.now }
 {
@@ -126,7 +126,7 @@ pub(crate) fn put_keys(out: &mut Report, word: &str, score: &Score) -> Result<()
     put_column_keys(out, keys.as_slice())
 }
 
-/// The two numbers of a text such as `0 2`.
+/// Returns the two numbers of a text such as `0 2`.
 pub(crate) fn measures_named(word: &str) -> (u32, u32) {
     let (a, b) = word.split_once(" ").unwrap_or((word, "0"));
     (measure_named(a), measure_named(b))

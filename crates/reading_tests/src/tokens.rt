@@ -2,7 +2,7 @@ use abc_music::{Deco, GraceChord, Head, Len, Placed, Token, WrittenChord};
 use case_texts::{Report, put_bar, put_deco, put_head};
 use mus_units::{Memory, Text};
 
-/// Adds tokens, each as its column, a colon and what it says.
+/// Adds tokens, each as its column, a colon and its text.
 pub(crate) fn put_tokens(out: &mut Report, tokens: &[Placed]) -> Result<(), Memory> {
     for placed in tokens {
         out.tell(placed.column)?;
@@ -50,7 +50,7 @@ fn put_broken(out: &mut Report, right: bool, dots: u8) -> Result<(), Memory> {
     out.show(dots)
 }
 
-/// Adds a token that is a mark or a text alone.
+/// Adds a token that is only a mark or a text.
 fn put_plain(out: &mut Report, token: &Token) -> Result<(), Memory> {
     match token {
         Token::Bar(bar) => {

@@ -11,7 +11,7 @@ use mus_score::Score;
 use mus_units::{Memory, Text};
 use std::alloc::Global;
 
-/// A tune that is read: the key of its header, and its score.
+/// A tune that was read: the key of its header, and its score.
 #[derive(Drop)]
 pub(crate) struct Tune {
     pub(crate) key: Key,
@@ -36,7 +36,7 @@ fn read_tune(
     })
 }
 
-/// The first tune of a book; a book without a tune answers as if memory were short.
+/// Returns the first tune of a book; a book without a tune answers as if memory had run out.
 pub(crate) fn tune_of(alloc: Global, bytes: &[u8], flow: bool) -> Result<Tune, TuneError>
     ensures { IfOk result (λ read. IsGoodScore read.score) }
 {
@@ -53,7 +53,7 @@ pub(crate) fn tune_of(alloc: Global, bytes: &[u8], flow: bool) -> Result<Tune, T
 /// A chord of ten heads and two parts.
 const CHORD: &[u8] = b"[CDEFGABcde]5";
 
-/// The bytes with so many chords in the place of each `@`.
+/// Returns the bytes with a number of chords in the place of each `@`.
 pub(crate) fn crowded(alloc: Global, count: u64, bytes: &[u8]) -> Result<Text, Memory> {
     let mut out = Text::new(alloc);
     for byte in bytes {

@@ -3,10 +3,10 @@ ghost use Rattle.std.specs.Prelude.{◌≤◌, ◌^◌};
 use case_texts::{Report, number_of, put_value};
 use mus_units::{Frac, Memory, parts_of, ticks_of, value_of};
 
-/// The greatest number that a length is asked with.
+/// The greatest number in a length that is asked for.
 const MOST: u64 = 1 << 56;
 
-/// The fraction that a text such as `3/8` says.
+/// Returns the fraction that a text such as `3/8` says.
 fn fraction_of(text: &str) -> Frac
     ensures some { 1 ≤ result.num }
     ensures near { result.num ≤ 2 ^ 56 }

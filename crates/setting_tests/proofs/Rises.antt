@@ -1,4 +1,4 @@
--- Abscissas that rise all along rise in each beam, and are those of a system that has as many columns.
+-- Abscissas that rise throughout rise in each beam, and are those of a system that has as many columns.
 use Rattle.std.proofs.Common.{◌≡◌, ◌∙◌, ◌<◌, ◌<ℤ◌, ◌+◌, ℕ, zero, suc, ℤ, pos, List, [], ◌∷◌, length, slice_index_or, ap}
 use Rattle.std.proofs.Common.{arith}
 use Rattle.mus_score.specs.declared.score.Score.{Score}
@@ -24,7 +24,7 @@ rises_in_beams [] xs r = tt {0}
 rises_in_beams (p ∷ ps) [] r = tt {0}
 rises_in_beams (p ∷ ps) (x ∷ xs) r = rises_after (slope_input p x) ps xs r
 
--- each lies below the one behind it
+-- each is below the next one
 below_next : (x : ℤ) (xs : List ℤ)
     → AreNumbersRisingFrom x xs → (i : ℕ) → i < length xs
     → slice_index_or (x ∷ xs) i (pos 0) <ℤ slice_index_or xs i (pos 0)

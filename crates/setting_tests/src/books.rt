@@ -1,4 +1,4 @@
-//! Books set by jobs, and what is told of them.
+//! Books set by jobs, and the reports on them.
 
 ghost use Rattle.{abc_lines.specs.Good.{IsGoodBook}, set_lists.specs.Listing.{AreListable}};
 
@@ -54,7 +54,7 @@ fn put_outcomes(out: &mut Report, outcomes: &[Outcome]) -> Result<(), Memory> {
     put_reports(&mut out.text, outcomes)
 }
 
-/// Adds how many tunes are set and have a fault, how many systems there are, and their total.
+/// Adds how many tunes are set and how many have a fault, how many systems there are, and their total.
 fn put_counts(out: &mut Report, outcomes: &[Outcome]) -> Result<(), Memory> {
     out.next_number(b"set ", set_count(outcomes))?;
     out.next_number(b"refused ", fault_count(outcomes))?;
@@ -64,8 +64,8 @@ fn put_counts(out: &mut Report, outcomes: &[Outcome]) -> Result<(), Memory> {
     out.end_line()
 }
 
-/// The outcomes of a book: each tune that is set, the reports of faults, and the counts; then the systems, and the
-/// listing.
+/// Adds the outcomes of a book: each tune that is set, the reports of faults, and the counts; then the systems,
+/// and the listing.
 fn put_told(out: &mut Report, outcomes: &[Outcome]) -> Result<(), Memory>
     requires { AreListable outcomes.now }
 {
@@ -75,7 +75,7 @@ fn put_told(out: &mut Report, outcomes: &[Outcome]) -> Result<(), Memory>
     put_listing(&mut out.text, outcomes)
 }
 
-/// The body of a book's paper, and its outcomes by jobs.
+/// Adds the body of a book's paper, and its outcomes by jobs.
 fn put_set_book<R: Threads + Sync>(
     rt: &R,
     out: &mut Report,
@@ -93,7 +93,7 @@ fn put_set_book<R: Threads + Sync>(
     put_told(out, outcomes.as_slice())
 }
 
-/// A book set by jobs.
+/// Adds a book set by jobs.
 pub(crate) fn put_book<R: Threads + Sync>(
     rt: &R,
     out: &mut Report,
@@ -108,7 +108,7 @@ pub(crate) fn put_book<R: Threads + Sync>(
     put_set_book(rt, out, &book, Jobs { count })
 }
 
-/// The first number of a text, or 1 where it is none of 8 bits.
+/// Returns the first number of a text, or 1 if it isn't one of 8 bits.
 fn first_of(alloc: Global, words: &str) -> Result<u8, Memory> {
     let numbers = numbers_of(alloc, words)?;
     Ok(u8::try_from(count_at(&numbers, 0)).unwrap_or(1))

@@ -41,7 +41,7 @@ fn put_laid_out(out: &mut Report, layout: &Layout, drawn: bool) -> Result<(), Me
     }
 }
 
-/// A score laid out on a width: where things stand, or else what its systems draw.
+/// Adds a score laid out on a width: where things are, or what its systems draw.
 pub(crate) fn put_score_layout<R: Threads + Sync>(
     rt: &R,
     out: &mut Report,

@@ -28,7 +28,7 @@ use std::rt::Files;
 use std::thread::Threads;
 use std::{fs, io};
 
-/// The calls that do nothing: each has a law for its promise.
+/// Makes the calls that do nothing: the contract of each is a law.
 fn state_laws() {
     beams_by_groups();
     beams_by_levels();
@@ -40,7 +40,7 @@ fn state_laws() {
     breakings_of_listing();
 }
 
-/// A case's line, and behind it the value of its call.
+/// Returns a case's line, followed by the value of its call.
 fn answer<R: Threads + Sync>(rt: &R, alloc: Global, text: &str) -> Result<Text, Memory> {
     let (line, case) = text_case(text);
     let mut value = Report::new(alloc);
@@ -48,7 +48,7 @@ fn answer<R: Threads + Sync>(rt: &R, alloc: Global, text: &str) -> Result<Text, 
     told(alloc, line, b"\n", value.text.as_slice())
 }
 
-/// Tells each case.
+/// Reports each case.
 pub fn tell_setting<R: Files + Print + AllocGlobal + Threads + Sync>(rt: &R) -> io::Result<()> {
     state_laws();
     let cases = fs::read_to_string(rt, "setting/cases")?;

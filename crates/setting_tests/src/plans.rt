@@ -1,4 +1,4 @@
-//! How events are drawn beside their heads.
+//! How events are drawn, apart from their heads.
 
 ghost use Rattle.std.specs.Prelude.{◌≡◌, IsTrue, All, length, map};
 ghost use Rattle.mus_score.specs.Good.{IsGoodBody};
@@ -38,9 +38,8 @@ fn put_stem(out: &mut Report, plan: &StemPlan) -> Result<(), Memory> {
     out.next_number(b"flags ", plan.flags)
 }
 
-/// Adds a line for each plan: the way of its stem, whether it has one, where the stem begins and ends and
-/// where it would end by itself, its group and its flags; then the places of its heads, signs, ledger
-/// lines and dots.
+/// Adds a line for each plan: the direction of its stem, whether it has one, where the stem begins and ends and where
+/// it would end by itself, its group and its flags; then the places of its heads, signs, ledger lines and dots.
 pub(crate) fn put_plans(out: &mut Report, plans: &[StemPlan]) -> Result<(), Memory> {
     for plan in plans {
         put_stem(out, plan)?;
@@ -81,7 +80,7 @@ fn can_stand(flat: &Flat<'_>, clef: Clef) -> bool
     heads.len() <= 50000 && flat.event().value.dots <= 3 && are_near(heads, clef)
 }
 
-/// Whether each event can stand in its clef, where `first` is in force before them.
+/// Returns whether each event can be drawn in its clef, if `first` is in force before them.
 pub(crate) fn can_all_stand(events: &[Flat<'_>], first: Clef) -> bool
     ensures { IsTrue result → AllCanStand events.now (clefs_from first events.now) }
 {
@@ -95,7 +94,7 @@ pub(crate) fn can_all_stand(events: &[Flat<'_>], first: Clef) -> bool
     true
 }
 
-/// The plans of a measure that begins in a clef.
+/// Adds the plans of a measure that begins in a clef.
 fn put_measure_plans(
     out: &mut Report,
     measure: &Measure,

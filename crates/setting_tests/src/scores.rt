@@ -20,8 +20,8 @@ fn tune_score(alloc: Global, tune: &TuneText, defaults: &Defaults) -> Result<Sco
     build(alloc, &header, tune, false)
 }
 
-/// The score of the first tune of a book. A book that is too long or has no tune answers as if memory
-/// were short.
+/// Returns the score of the first tune of a book. A book that is too long or has no tune answers as if memory had run
+/// out.
 pub(crate) fn score_of(alloc: Global, bytes: &[u8]) -> Result<Score, TuneError>
     ensures { IfOk result IsGoodScore }
 {

@@ -1,4 +1,4 @@
-//! Beams that slope.
+//! Sloped beams.
 
 ghost use Rattle.std.specs.Prelude.{IsTrue};
 ghost use Rattle.mus_score.specs.Good.{IsGoodBody};
@@ -16,7 +16,7 @@ use mus_score::{Measure, Score, Voice, flatten};
 use mus_stems::{StemPlan, slope, stems};
 use mus_units::Memory;
 
-/// Whether each number can be an abscissa.
+/// Returns whether each number can be an abscissa.
 fn are_places(at: &[i64]) -> bool
     ensures { IsTrue result → ArePlaces at.now }
 {
@@ -28,7 +28,7 @@ fn are_places(at: &[i64]) -> bool
     true
 }
 
-/// Whether numbers rise from a first one.
+/// Returns whether numbers rise from a first one.
 fn rise_from(first: i64, rest: &[i64]) -> bool
     ensures { IsTrue result → AreNumbersRisingFrom first rest.now }
 {
@@ -42,7 +42,7 @@ fn rise_from(first: i64, rest: &[i64]) -> bool
     true
 }
 
-/// Whether numbers rise.
+/// Returns whether numbers rise.
 fn are_rising(at: &[i64]) -> bool
     ensures { IsTrue result → AreRisingNumbers at.now }
 {
@@ -89,8 +89,7 @@ fn put_voice_slopes(out: &mut Report, voice: &Voice, at: &[i64]) -> Result<(), M
     }
 }
 
-/// Adds the plans of the first measure of the first voice on sloped beams, where its events stand at these
-/// abscissas.
+/// Adds the plans of the first measure of the first voice on sloped beams, with its events at these abscissas.
 pub(crate) fn put_slopes(out: &mut Report, score: &Score, at: &[i64]) -> Result<(), Memory>
     requires { IsGoodScore score.now }
 {
@@ -100,7 +99,7 @@ pub(crate) fn put_slopes(out: &mut Report, score: &Score, at: &[i64]) -> Result<
     }
 }
 
-/// Adds what the system of the measures `a` to `b` - 1 draws whose columns stand at abscissas.
+/// Adds what the system of the measures `a` to `b` - 1 draws with its columns at the given abscissas.
 #[tactic(auto, using(crate::proofs::Rises::are_abscissas))]
 pub(crate) fn put_tilted(
     out: &mut Report,

@@ -29,9 +29,8 @@ fn put_measure(out: &mut Report, measure: &DrawnMeasure<'_>) -> Result<(), Memor
     Ok(())
 }
 
-/// Adds for each voice a line of its verses and its arcs, and for each measure a line of what opens a
-/// system there and a line for each event: its id, its tick, its clef, and the key before it that it
-/// changes.
+/// Adds for each voice a line of its verses and its arcs, and for each measure a line of what opens a system there
+/// and a line for each event: its id, its tick, its clef, and the key before it that it changes.
 pub(crate) fn put_voices(out: &mut Report, voices: &[DrawnVoice<'_>]) -> Result<(), Memory> {
     for voice in voices {
         out.tell(format_args!("voice {} {}\n", voice.verses, voice.arcs.len()))?;
