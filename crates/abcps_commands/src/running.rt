@@ -63,7 +63,7 @@ impl Streams {
         }
     }
 
-    /// Returns sound streams except one, which goes at a pace; for the input only the failing read counts.
+    /// Returns sound streams, except one that goes at a given pace; for the input only the read that fails counts.
     fn with(stream: Stream, pace: Pace) -> Streams {
         let sound = Streams::sound(PIECE);
         match stream {

@@ -21,7 +21,7 @@ can_move d key by =
     (both (Bool-discrete (list_all (voice_may (move_from key by)) d.voices) true)
     (decided (all_in_reach voices) (voices_decide voices))))
 
--- the result is as good as the score, with as many measures and voices
+-- the result is a good score too, with as many measures and voices
 abbrev HasMoved : Score → Key → ℤ → Type 0
 HasMoved d key by =
     (r : Option Score)

@@ -3,8 +3,8 @@ ghost use Rattle.law_every_outcome.specs.Every.{EveryTuneHasAnOutcome};
 use law_every_layout::every_score_is_laid;
 use law_every_score::every_text_is_read;
 
-/// The law of this crate: every tune has an outcome under good defaults, and every book, of whatever size, has a list
-/// of outcomes. Does nothing.
+/// The law of this crate: every tune has an outcome under good defaults, and every book has a list of outcomes, of
+/// whatever size they are. Does nothing.
 pub fn every_tune_has_an_outcome()
     ensures { EveryTuneHasAnOutcome }
 {

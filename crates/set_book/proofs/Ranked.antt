@@ -67,7 +67,7 @@ if_ranked : (b : Bool) (kind : FaultKind) (at : PlacedStep) → kind_rank kind <
 if_ranked true kind at h = (h, tt)
 if_ranked false kind at h = tt
 
--- one fault where a test holds
+-- one fault if a test holds
 when_ranked : (b : Bool) (fault : Fault) → IsRanked fault → AreRanked (cond b (fault ∷ []) [])
 when_ranked true fault h = (h, tt)
 when_ranked false fault h = tt

@@ -49,7 +49,7 @@ fn put_staff_boxes(out: &mut Report, staves: &[StaffMarks]) -> Result<(), Memory
     Ok(())
 }
 
-/// Adds what is printed of a text, and what of it within so many characters.
+/// Adds what is printed of a text, and what is printed of it within a number of characters.
 pub(crate) fn put_printed(out: &mut Report, most: usize, text: &[u8]) -> Result<(), Memory> {
     out.next(printed(out.alloc, text)?.as_slice())?;
     out.end_line()?;
