@@ -70,7 +70,7 @@ pub record Promises (s : Status) (words : List (List ℕ)) (i o e : Stream) : Ty
       × IsQuiet o
       × IsQuiet e
   -- an input that is not a document, or not a listing, is reported with the line of its first fault; one that can't
-  -- be painted with the token at which its run halts and the cause; nothing is written to output
+  -- be painted is reported with the token at which its run halts and the cause; nothing is written to output
   pub refused : IsRefusalStatus s
       → (c : Command) × (text : List ℕ) × AsksWholeText c words i text × IsRefused c s text o e
   -- the status is a fault of a sink only if its count rose: output has a prefix of its text and errors nothing, or

@@ -82,7 +82,7 @@ fn place_blocks(
     }
 }
 
-/// Returns how many pages are begun once blocks are placed after those.
+/// Returns how many pages are begun once blocks are placed after this number of begun pages.
 #[tactic(auto, using(crate::proofs::Texts::last_begun, crate::proofs::Texts::none_begun))]
 fn begun_after(begun: u32, spots: &[Spot]) -> Result<u32, Memory>
     ensures value { IfOk result (λ n. n ≡ begun_after begun spots.now) }
