@@ -125,6 +125,9 @@ fn place_outcomes(
     Ok(stood)
 }
 
+/// The bytes that are reserved for the text of a tune, so that the text of most tunes is never moved as it grows.
+const TEXT_ROOM: usize = 65_536;
+
 /// A writer of the text of placed outcomes, on pages whose body has this width.
 #[derive(Drop)]
 pub struct OutcomeWriter {
@@ -149,7 +152,9 @@ impl Work<PlacedOutcome, Text> for OutcomeWriter {
     ghost gives = { λ w placed text. IsTextOfOutcome w.width placed text };
 
     fn work(&self, placed: PlacedOutcome, _jobs: Jobs) -> Result<Text, Memory> {
-        let mut text = Text::new(self.alloc);
+        let mut text = Text {
+            bytes: Vec::with_capacity(self.alloc, TEXT_ROOM)?,
+        };
         put_outcome(
             self.alloc,
             self.width,
