@@ -41,13 +41,13 @@ abbrev pub joined_bar : Bar → Bar
 joined_bar b = record b { unseen = b.unseen && not (is_seen b) }
 
 -- the bars among some steps before which exactly `begun` measures had begun
-unfoldable pub bars_behind : ℕ → ℕ → Step → Option Bar → Option Bar
-bars_behind begun now (Step.Bar bar) all = if begun == now then Some (union_with all bar) else all
-bars_behind begun now _ all = all
+unfoldable pub bars_after : ℕ → ℕ → Step → Option Bar → Option Bar
+bars_after begun now (Step.Bar bar) all = if begun == now then Some (union_with all bar) else all
+bars_after begun now _ all = all
 
 abbrev pub bars_at : ℕ → Steps → Option Bar
 bars_at begun [] = None
-bars_at begun (s ∷ before) = bars_behind begun (measures_begun before) s.step (bars_at begun before)
+bars_at begun (s ∷ before) = bars_after begun (measures_begun before) s.step (bars_at begun before)
 
 abbrev pub joined_or : Bar → Option Bar → Bar
 joined_or other None = other
@@ -83,14 +83,14 @@ forces_bar n counts =
 abbrev pub with_bar : ℕ → List ℕ → List ℕ
 with_bar bar forced = if list_any (λ b. b == bar) forced then forced else forced ++ bar ∷ []
 
-unfoldable pub forced_behind : ℕ → Counts → Step → List ℕ → List ℕ
-forced_behind n counts Step.Break forced =
+unfoldable pub forced_after : ℕ → Counts → Step → List ℕ → List ℕ
+forced_after n counts Step.Break forced =
     if forces_bar n counts then with_bar (counts.groups + counts.further) forced else forced
-forced_behind n counts _ forced = forced
+forced_after n counts _ forced = forced
 
 abbrev pub forced_at : ℕ → Steps → List ℕ
 forced_at n [] = []
-forced_at n (s ∷ before) = forced_behind n (counts_of before) s.step (forced_at n before)
+forced_at n (s ∷ before) = forced_after n (counts_of before) s.step (forced_at n before)
 
 abbrev pub forced_bars : Steps → ℕ → List ℕ
 forced_bars steps n = forced_at n (reverse steps)

@@ -2,9 +2,9 @@ ghost use Rattle.std.specs.Prelude.{◌≡◌, ◌≤◌, ◌<◌, ◌^◌, ◌+
 ghost use Rattle.std.specs.Prelude.{IfOk, OnOk};
 ghost use Rattle.std.specs.List.{list_any};
 ghost use Rattle.{mus_units.specs.declared.note.Bar.{Bar}, abc_steps.specs.Counts.{measures_begun}};
-ghost use Rattle.abc_events.specs.Bars.{plain_bar, unseen_bar, union, union_with, is_seen, joined_bar, bars_behind};
+ghost use Rattle.abc_events.specs.Bars.{plain_bar, unseen_bar, union, union_with, is_seen, joined_bar, bars_after};
 ghost use Rattle.abc_events.specs.Bars.{bars_at, joined_or, bar_before_events, missing_bar, bars_of, is_near_bar};
-ghost use Rattle.abc_events.specs.Bars.{forces_bar, with_bar, forced_behind, forced_bars};
+ghost use Rattle.abc_events.specs.Bars.{forces_bar, with_bar, forced_after, forced_bars};
 
 use abc_steps::counts::{count_step, no_counts};
 use abc_steps::{Counts, Nearest, PlacedStep, Step};
@@ -82,9 +82,9 @@ fn joined_or(other: Bar, all: Option<Bar>) -> Bar
 }
 
 /// Returns the bars before which exactly `begun` measures have begun, with one more step added.
-#[tactic(auto, unfolding(crate::specs::Bars::bars_behind))]
-fn bars_behind(begun: u64, now: u64, s: &Step, all: Option<Bar>) -> Option<Bar>
-    ensures { result ≡ bars_behind begun now s.now all }
+#[tactic(auto, unfolding(crate::specs::Bars::bars_after))]
+fn bars_after(begun: u64, now: u64, s: &Step, all: Option<Bar>) -> Option<Bar>
+    ensures { result ≡ bars_after begun now s.now all }
 {
     match s {
         Step::Bar(bar) => {
@@ -111,10 +111,10 @@ pub fn own_measures(steps: &[PlacedStep]) -> u64
 }
 
 /// Adds a step to the bars of each place.
-#[tactic(auto, unfolding(crate::specs::Bars::bars_behind))]
+#[tactic(auto, unfolding(crate::specs::Bars::bars_after))]
 fn put_bar(all: &mut [Option<Bar>], now: u64, s: &Step)
     ensures { (begun : ℕ) → begun < length all.old
-        → slice_index_or all.new begun None ≡ bars_behind begun now s.now (slice_index_or all.old begun None) }
+        → slice_index_or all.new begun None ≡ bars_after begun now s.now (slice_index_or all.old begun None) }
 {
     if let Step::Bar(bar) = s {
         if now < all.len() as u64 {
@@ -232,11 +232,11 @@ fn put_forced(forced: &mut Row<u32>, bar: u32) -> Result<(), Memory>
 }
 
 /// Adds the bar that a step forces.
-#[tactic(auto, unfolding(crate::specs::Bars::forced_behind))]
-fn force_behind(forced: &mut Row<u32>, n: u32, counts: Counts, s: &Step) -> Result<(), Memory>
+#[tactic(auto, unfolding(crate::specs::Bars::forced_after))]
+fn force_after(forced: &mut Row<u32>, n: u32, counts: Counts, s: &Step) -> Result<(), Memory>
     requires groups { counts.groups ≤ 2 ^ 30 }
     requires further { counts.further ≤ 2 ^ 46 }
-    ensures { OnOk result (forced.new ≡ forced_behind n counts s.now forced.old) }
+    ensures { OnOk result (forced.new ≡ forced_after n counts s.now forced.old) }
 {
     match s {
         Step::Break => {
@@ -257,7 +257,7 @@ pub fn forced_bars(alloc: Global, steps: &[PlacedStep], n: u32) -> Result<Row<u3
     let mut forced = Row::new(alloc);
     let mut counts = no_counts();
     for s in steps {
-        force_behind(&mut forced, n, counts, &s.step)?;
+        force_after(&mut forced, n, counts, &s.step)?;
         count_step(&mut counts, s);
     }
     Ok(forced)

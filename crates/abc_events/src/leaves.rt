@@ -27,7 +27,7 @@ impl Numbers {
         ensures id { OnOk result (self.new.id ≡ self.old.id + parts) }
     {
         let here = *self;
-        self.id = id_behind(here.id, parts)?;
+        self.id = id_after(here.id, parts)?;
         self.event = here.event.checked_add(1).ok_or(Memory)?;
         Ok(here)
     }
@@ -182,8 +182,8 @@ fn next_id(id: u32) -> Result<u32, Memory>
 }
 
 /// Returns the id `count` after another.
-fn id_behind(id: u32, count: usize) -> Result<u32, Memory>
-    ensures { IfOk result (λ behind. behind ≡ id + count) }
+fn id_after(id: u32, count: usize) -> Result<u32, Memory>
+    ensures { IfOk result (λ following. following ≡ id + count) }
 {
     match u32::try_from(count) {
         Ok(count) => id.checked_add(count).ok_or(Memory),

@@ -13,7 +13,7 @@ use Rattle.std.specs.List.Sorted.{IsPermutation}
 use Rattle.abc_lines.specs.declared.fault.Fault.{Fault}
 use Rattle.abc_faults.specs.declared.weights.Weight.{Weight}
 use Rattle.abc_faults.specs.First.{is_below_or_tied, is_before, IsLeastFault, IsFirstInOrder}
-use Rattle.abc_faults.specs.Weights.{stands_before, IsBehind, AreInOrder, count_up_to, crowd_up_to, crowd_fault}
+use Rattle.abc_faults.specs.Weights.{stands_before, IsAfter, AreInOrder, count_up_to, crowd_up_to, crowd_fault}
 use Rattle.abc_faults.specs.Weights.{crowd_faults_at, crowded}
 
 -- ---- the order of places
@@ -24,9 +24,9 @@ below_not_below : (a b x y m n : ℕ) → below a b x y ≡ true → below m n x
 below_not_below a b x y m n h i = grind (arith, nat_tests)
 
 -- v comes before w, and u does not
-before_behind : (u v w : Weight) → stands_before v w ≡ true → stands_before u w ≡ false → stands_before v u ≡ true
+before_after : (u v w : Weight) → stands_before v w ≡ true → stands_before u w ≡ false → stands_before v u ≡ true
 unfolding stands_before
-before_behind u v w h i = below_not_below v.line v.column w.line w.column u.line u.column h i
+before_after u v w h i = below_not_below v.line v.column w.line w.column u.line u.column h i
 
 no_kind_before : (a b x y k : ℕ) → is_below_or_tied a x (is_below_or_tied b y (nat_lt k k)) ≡ below a b x y
 no_kind_before a b x y k = grind (arith, nat_tests)
@@ -64,47 +64,47 @@ none_up_to w (v ∷ vs) h =
     sum_by-cons (count_up_to w) v vs ∙ omega (arith, here, none_up_to w vs h.1)
 
 -- all weights before a weight in the order of the text count
-all_up_to : (front : List Weight) (w : Weight) (behind : List Weight)
-    → AreInOrder (front ++ w ∷ behind) → crowd_up_to front w ≡ sum_by count front
-all_up_to [] w behind h = refl
-all_up_to (v ∷ front) w behind h =
-    let here : count_up_to w v ≡ v.count = simp (there front h.0) in
-    let a = sum_by-cons (count_up_to w) v front in
-    let b = sum_by-cons count v front in
-    let rest = all_up_to front w behind h.1 in
+all_up_to : (prefix : List Weight) (w : Weight) (following : List Weight)
+    → AreInOrder (prefix ++ w ∷ following) → crowd_up_to prefix w ≡ sum_by count prefix
+all_up_to [] w following h = refl
+all_up_to (v ∷ prefix) w following h =
+    let here : count_up_to w v ≡ v.count = simp (there prefix h.0) in
+    let a = sum_by-cons (count_up_to w) v prefix in
+    let b = sum_by-cons count v prefix in
+    let rest = all_up_to prefix w following h.1 in
     cc where
-      there : (xs : List Weight) → AllByRecursion (IsBehind v) (xs ++ w ∷ behind) → stands_before w v ≡ false
+      there : (xs : List Weight) → AllByRecursion (IsAfter v) (xs ++ w ∷ following) → stands_before w v ≡ false
       there [] all = all.0
       there (x ∷ xs) all = there xs all.1
 
-behind_in_order : (front : List Weight) (w : Weight) (behind : List Weight)
-    → AreInOrder (front ++ w ∷ behind) → AllByRecursion (IsBehind w) behind
-behind_in_order [] w behind h = h.0
-behind_in_order (v ∷ front) w behind h = behind_in_order front w behind h.1
+after_in_order : (prefix : List Weight) (w : Weight) (following : List Weight)
+    → AreInOrder (prefix ++ w ∷ following) → AllByRecursion (IsAfter w) following
+after_in_order [] w following h = h.0
+after_in_order (v ∷ prefix) w following h = after_in_order prefix w following h.1
 
 pub before_all : (v w : Weight) (us : List Weight)
-    → stands_before v w ≡ true → AllByRecursion (IsBehind w) us → AllByRecursion (λ u. stands_before v u ≡ true) us
+    → stands_before v w ≡ true → AllByRecursion (IsAfter w) us → AllByRecursion (λ u. stands_before v u ≡ true) us
 before_all v w [] h all = tt
-before_all v w (u ∷ us) h all = (before_behind u v w h all.0, before_all v w us h all.1)
+before_all v w (u ∷ us) h all = (before_after u v w h all.0, before_all v w us h all.1)
 
 -- what is at places before a weight's place is counted before it
-crowd_before : (front : List Weight) (w : Weight) (behind : List Weight) (v : Weight)
-    → AreInOrder (front ++ w ∷ behind) → stands_before v w ≡ true
-    → crowd_up_to (front ++ w ∷ behind) v ≤ sum_by count front
-crowd_before front w behind v order h =
-    let parts = sum_by-append (count_up_to v) front (w ∷ behind) in
-    let none : crowd_up_to (w ∷ behind) v ≡ 0 =
-    none_up_to v (w ∷ behind) (h, before_all v w behind h (behind_in_order front w behind order)) in
-    omega (arith, parts, none, crowd-le front v)
+crowd_before : (prefix : List Weight) (w : Weight) (following : List Weight) (v : Weight)
+    → AreInOrder (prefix ++ w ∷ following) → stands_before v w ≡ true
+    → crowd_up_to (prefix ++ w ∷ following) v ≤ sum_by count prefix
+crowd_before prefix w following v order h =
+    let parts = sum_by-append (count_up_to v) prefix (w ∷ following) in
+    let none : crowd_up_to (w ∷ following) v ≡ 0 =
+    none_up_to v (w ∷ following) (h, before_all v w following h (after_in_order prefix w following order)) in
+    omega (arith, parts, none, crowd-le prefix v)
 
 -- a weight and all weights before it count
-crowd_at : (front : List Weight) (w : Weight) (behind : List Weight)
-    → AreInOrder (front ++ w ∷ behind) → sum_by count front + w.count ≤ crowd_up_to (front ++ w ∷ behind) w
-crowd_at front w behind order =
-    let parts = sum_by-append (count_up_to w) front (w ∷ behind) in
-    let own = sum_by-cons (count_up_to w) w behind in
+crowd_at : (prefix : List Weight) (w : Weight) (following : List Weight)
+    → AreInOrder (prefix ++ w ∷ following) → sum_by count prefix + w.count ≤ crowd_up_to (prefix ++ w ∷ following) w
+crowd_at prefix w following order =
+    let parts = sum_by-append (count_up_to w) prefix (w ∷ following) in
+    let own = sum_by-cons (count_up_to w) w following in
     let here : count_up_to w w ≡ w.count = simp (not_before_itself w) in
-    omega (arith, parts, own, here, all_up_to front w behind order)
+    omega (arith, parts, own, here, all_up_to prefix w following order)
 
 -- ---- the faults
 abbrev IsCrowded : List Weight → Weight → Type 0
@@ -125,18 +125,19 @@ none_held f h = absurd (omega (arith, h.1))
 is_alone : (f g : Fault) → Contains (f ∷ []) g → g ≡ f
 is_alone f g h = let P : Fault → Type 0 = λ x. x ≡ f in All-contains P (f ∷ []) g (All-cons P f [] refl (All-nil P)) h
 
-in_flat : (fs : Weight → List Fault) (front : List Weight) (w : Weight) (behind : List Weight) (f : Fault)
-    → fs w ≡ f ∷ [] → Contains (flat_map fs (front ++ w ∷ behind)) f
-in_flat fs [] w behind f e = subst (λ z. Contains (z ++ flat_map fs behind) f) (sym e) (at_head f (flat_map fs behind))
-in_flat fs (v ∷ front) w behind f e =
-    Contains-append_right (fs v) (flat_map fs (front ++ w ∷ behind)) f (in_flat fs front w behind f e)
+in_flat : (fs : Weight → List Fault) (prefix : List Weight) (w : Weight) (following : List Weight) (f : Fault)
+    → fs w ≡ f ∷ [] → Contains (flat_map fs (prefix ++ w ∷ following)) f
+in_flat fs [] w following f e =
+    subst (λ z. Contains (z ++ flat_map fs following) f) (sym e) (at_head f (flat_map fs following))
+in_flat fs (v ∷ prefix) w following f e =
+    Contains-append_right (fs v) (flat_map fs (prefix ++ w ∷ following)) f (in_flat fs prefix w following f e)
 
 -- the weight of a fault
 pub record IsFaultOf (all some : List Weight) (g : Fault) : Type 0 where
   pub weight : Weight
-  pub front : List Weight
-  pub behind : List Weight
-  pub there : some ≡ front ++ weight ∷ behind
+  pub prefix : List Weight
+  pub following : List Weight
+  pub there : some ≡ prefix ++ weight ∷ following
   pub is : g ≡ crowd_fault weight
   pub crowd : IsCrowded all weight
 
@@ -157,36 +158,36 @@ fault_of all (w ∷ ws) g h =
       own : Contains (crowd_faults_at all w) g → IsFaultOf all (w ∷ ws) g
       own k =
           let o = own_fault all w g k in
-          record { weight = w; front = []; behind = ws; there = refl; is = o.0; crowd = o.1 }
+          record { weight = w; prefix = []; following = ws; there = refl; is = o.0; crowd = o.1 }
 
       longer : IsFaultOf all ws g → IsFaultOf all (w ∷ ws) g
       longer o = record {
         weight = o.weight;
-        front = w ∷ o.front;
-        behind = o.behind;
+        prefix = w ∷ o.prefix;
+        following = o.following;
         there = ap (λ z. w ∷ z) o.there;
         is = o.is;
         crowd = o.crowd;
       }
 
 -- too many with a weight in the order of the text, but not before it
-first_at : (front : List Weight) (w : Weight) (behind : List Weight)
-    → AreInOrder (front ++ w ∷ behind) → sum_by count front ≤ 50000 → 50000 < sum_by count front + w.count
-    → IsLeastFault (crowded (front ++ w ∷ behind)) (crowd_fault w)
-first_at front w behind order few many =
-    let ws = front ++ w ∷ behind in
+first_at : (prefix : List Weight) (w : Weight) (following : List Weight)
+    → AreInOrder (prefix ++ w ∷ following) → sum_by count prefix ≤ 50000 → 50000 < sum_by count prefix + w.count
+    → IsLeastFault (crowded (prefix ++ w ∷ following)) (crowd_fault w)
+first_at prefix w following order few many =
+    let ws = prefix ++ w ∷ following in
     record {
-      held = in_flat (crowd_faults_at ws) front w behind (crowd_fault w)
-          (crowded_is ws w (omega (arith, crowd_at front w behind order)));
+      held = in_flat (crowd_faults_at ws) prefix w following (crowd_fault w)
+          (crowded_is ws w (omega (arith, crowd_at prefix w following order)));
       least = λ g in'. not_earlier g (fault_of ws ws g in');
     } where
       by_test : (v : Weight) (b : Bool)
-          → stands_before v w ≡ b → IsCrowded (front ++ w ∷ behind) v → stands_before v w ≡ false
+          → stands_before v w ≡ b → IsCrowded (prefix ++ w ∷ following) v → stands_before v w ≡ false
       by_test v false e crowd = e
-      by_test v true e crowd = absurd (omega (arith, crowd_before front w behind v order e))
+      by_test v true e crowd = absurd (omega (arith, crowd_before prefix w following v order e))
 
       not_earlier : (g : Fault)
-          → IsFaultOf (front ++ w ∷ behind) (front ++ w ∷ behind) g → is_before g (crowd_fault w) ≡ false
+          → IsFaultOf (prefix ++ w ∷ following) (prefix ++ w ∷ following) g → is_before g (crowd_fault w) ≡ false
       not_earlier g o =
           ap (λ z. is_before z (crowd_fault w)) o.is
           ∙ same_order o.weight w
@@ -215,7 +216,7 @@ none_found ws i left done sum = none_among ws ws (omega (arith, ap (sum_by count
 
 -- ---- the same weights in another order
 split_at_held : (ws : List Weight) (w : Weight)
-    → Contains ws w → (front : List Weight) × ((behind : List Weight) × (ws ≡ front ++ w ∷ behind))
+    → Contains ws w → (prefix : List Weight) × ((following : List Weight) × (ws ≡ prefix ++ w ∷ following))
 split_at_held ws w h =
     let there : drop h.0 ws ≡ w ∷ drop (h.0 + 1) ws = drop_more ws h.0 w h.1 ∙ ap (λ x. x ∷ drop (h.0 + 1) ws) h.2 in
     (take h.0 ws, (drop (h.0 + 1) ws, sym (take-append-drop h.0 ws) ∙ ap (λ z. take h.0 ws ++ z) there))
@@ -223,7 +224,7 @@ split_at_held ws w h =
 pub weight_held : (all some : List Weight) (g : Fault) (o : IsFaultOf all some g) → Contains some o.weight
 weight_held all some g o =
     subst (λ z. Contains z o.weight) (sym o.there)
-    (Contains-append_right o.front (o.weight ∷ o.behind) o.weight (0, omega arith, refl))
+    (Contains-append_right o.prefix (o.weight ∷ o.following) o.weight (0, omega arith, refl))
 
 pub crowd_held : (ws : List Weight) (w : Weight)
     → Contains ws w → IsCrowded ws w → Contains (crowded ws) (crowd_fault w)

@@ -76,9 +76,9 @@ with_none_before s t f h others = record {
   least = λ g in'. ⊎_elim (h.least g) (others g) (Contains-append_cases s t g in');
 }
 
-behind_none_before : (s t : List Fault) (g : Fault)
+after_none_before : (s t : List Fault) (g : Fault)
     → IsLeastFault t g → ((f : Fault) → Contains s f → is_before f g ≡ false) → IsLeastFault (s ++ t) g
-behind_none_before s t g h others = record {
+after_none_before s t g h others = record {
   held = Contains-append_right s t g h.held;
   least = λ f in'. ⊎_elim (others f) (h.least f) (Contains-append_cases s t f in');
 }
@@ -92,7 +92,7 @@ not_before_earlier f g h a b = by_test (is_before h g) refl where
 
 of_two : (s t : List Fault) (f g : Fault) (x : Bool)
     → is_before g f ≡ x → IsLeastFault s f → IsLeastFault t g → IsFirstInOrder (s ++ t) (cond x (Some g) (Some f))
-of_two s t f g true e a b = behind_none_before s t g b (λ h in'. not_before_earlier f g h e (a.least h in'))
+of_two s t f g true e a b = after_none_before s t g b (λ h in'. not_before_earlier f g h e (a.least h in'))
 of_two s t f g false e a b = with_none_before s t f a (λ h in'. not_before f g h e (b.least h in'))
 
 pub earlier_first : (s t : List Fault) (a b : Option Fault)

@@ -8,7 +8,7 @@ use Rattle.std.specs.Ordering.{is_lt, nat_cmp, ordering_then}
 use Rattle.abc_faults.specs.contracts.weights.WeightOrd.TheImpl.{ghosts}
 use Rattle.abc_faults.specs.contracts.weights.WeightOrd.TheImpl.Laws.{total-law}
 use Rattle.abc_faults.specs.declared.weights.Weight.{Weight}
-use Rattle.abc_faults.specs.Weights.{stands_before, IsBehind, AreInOrder}
+use Rattle.abc_faults.specs.Weights.{stands_before, IsAfter, AreInOrder}
 
 shape : (v w : Weight)
     → ghosts.cmp v w
@@ -20,10 +20,10 @@ unfolding stands_before
 less_before v w h = grind (arith, nat_tests)
 
 from_places : (ws : List Weight)
-    → ((i j : ℕ) (d : Weight) → i ≤ j → j < length ws → IsBehind (get_or ws i d) (get_or ws j d)) → AreInOrder ws
+    → ((i j : ℕ) (d : Weight) → i ≤ j → j < length ws → IsAfter (get_or ws i d) (get_or ws j d)) → AreInOrder ws
 from_places [] h = tt
 from_places (w ∷ ws) h = (
-  recursion_from_All (IsBehind w) ws (λ k d less. h 0 (suc k) d (omega arith) (omega arith)),
+  recursion_from_All (IsAfter w) ws (λ k d less. h 0 (suc k) d (omega arith) (omega arith)),
   from_places ws (λ i j d le less. h (suc i) (suc j) d (omega arith) (omega arith)),
 )
 

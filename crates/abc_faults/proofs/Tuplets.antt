@@ -11,7 +11,7 @@ use Rattle.abc_steps.specs.Looks.{Steps}
 use Rattle.abc_faults.specs.Faults.{ends_tuplets}
 
 abbrev pub sounds : Steps → ℕ
-sounds behind = count_by (λ s. is_sound s.step) (before_first (λ s. ends_tuplets s.step) behind)
+sounds following = count_by (λ s. is_sound s.step) (before_first (λ s. ends_tuplets s.step) following)
 
 abbrev one_if : Bool → ℕ
 one_if is = cond is 1 0
@@ -27,20 +27,22 @@ goes_on s rest e =
     first ∙ ap (λ b. cond (not b) (s ∷ take_while passes rest) []) e in
     ap count kept ∙ sum_by-cons (λ x. one_if (is_sound x.step)) s (take_while passes rest)
 
-pub sounds_more : (behind : Steps) (i : ℕ) (s : PlacedStep)
-    → i < length behind → s ≡ get_or behind i s → ends_tuplets s.step ≡ false
-    → sounds (drop i behind) ≡ one_if (is_sound s.step) + sounds (drop (i + 1) behind)
-sounds_more behind i s less is e =
-    let there : drop i behind ≡ s ∷ drop (i + 1) behind =
-    drop_more behind i s less ∙ ap (λ x. x ∷ drop (i + 1) behind) (cc) in
-    ap sounds there ∙ goes_on s (drop (i + 1) behind) e
+pub sounds_more : (following : Steps) (i : ℕ) (s : PlacedStep)
+    → i < length following → s ≡ get_or following i s → ends_tuplets s.step ≡ false
+    → sounds (drop i following) ≡ one_if (is_sound s.step) + sounds (drop (i + 1) following)
+sounds_more following i s less is e =
+    let there : drop i following ≡ s ∷ drop (i + 1) following =
+    drop_more following i s less ∙ ap (λ x. x ∷ drop (i + 1) following) (cc) in
+    ap sounds there ∙ goes_on s (drop (i + 1) following) e
 
-pub step_on : (behind : Steps) (i left next : ℕ) (s : PlacedStep) (short : Bool)
-    → i < length behind → s ≡ get_or behind i s → ends_tuplets s.step ≡ false → next + one_if (is_sound s.step) ≡ left
-    → nat_lt (sounds (drop i behind)) left ≡ short → nat_lt (sounds (drop (i + 1) behind)) next ≡ short
-step_on behind i left next s short less is e count h =
-    let more = sounds_more behind i s less is e in
-    by_numbers (sounds (drop i behind)) (sounds (drop (i + 1) behind)) (one_if (is_sound s.step)) left next more count
+pub step_on : (following : Steps) (i left next : ℕ) (s : PlacedStep) (short : Bool)
+    → i < length following → s ≡ get_or following i s → ends_tuplets s.step ≡ false
+    → next + one_if (is_sound s.step) ≡ left
+    → nat_lt (sounds (drop i following)) left ≡ short → nat_lt (sounds (drop (i + 1) following)) next ≡ short
+step_on following i left next s short less is e count h =
+    let more = sounds_more following i s less is e in
+    by_numbers (sounds (drop i following)) (sounds (drop (i + 1) following)) (one_if (is_sound s.step)) left next more
+    count
     ∙ h where
       by_numbers : (m n k left next : ℕ) → m ≡ k + n → next + k ≡ left → nat_lt n next ≡ nat_lt m left
       by_numbers m n k left next a b = grind (arith, nat_tests)

@@ -31,9 +31,9 @@ pub walk_parts : (first : InForce) (steps : Steps) (i : ℕ) (at : PlacedStep)
     ≡ faults_of (state_at first (reverse (take i steps))) (reverse (take i steps)) at (drop (i + 1) steps) at.step
     ++ faults_in first (reverse (take (i + 1) steps)) (drop (i + 1) steps)
 walk_parts first steps i at less is =
-    let before = reverse (take i steps) in let behind = drop (i + 1) steps in
+    let before = reverse (take i steps) in let following = drop (i + 1) steps in
     ap (faults_in first before) (at_front steps i at less is)
-    ∙ ap (λ z. faults_of (state_at first before) before at behind at.step ++ faults_in first z behind)
+    ∙ ap (λ z. faults_of (state_at first before) before at following at.step ++ faults_in first z following)
     (sym (nearest steps i at less is))
 
 pub weigh_parts : (first : InForce) (steps : Steps) (i : ℕ) (at : PlacedStep)
@@ -41,9 +41,9 @@ pub weigh_parts : (first : InForce) (steps : Steps) (i : ℕ) (at : PlacedStep)
     ≡ weights_of (state_at first (reverse (take i steps))) (reverse (take i steps)) at (drop (i + 1) steps) at.step
     ++ weights_in first (reverse (take (i + 1) steps)) (drop (i + 1) steps)
 weigh_parts first steps i at less is =
-    let before = reverse (take i steps) in let behind = drop (i + 1) steps in
+    let before = reverse (take i steps) in let following = drop (i + 1) steps in
     ap (weights_in first before) (at_front steps i at less is)
-    ∙ ap (λ z. weights_of (state_at first before) before at behind at.step ++ weights_in first z behind)
+    ∙ ap (λ z. weights_of (state_at first before) before at following at.step ++ weights_in first z following)
     (sym (nearest steps i at less is))
 
 -- one more part of a list, after what was put before it

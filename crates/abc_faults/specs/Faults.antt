@@ -38,8 +38,8 @@ ends_tuplets (Step.Measures seen count) = true
 ends_tuplets _ = false
 
 -- the events that a tuplet at the place could take
-unfoldable pub sounds_behind : Steps → ℕ
-sounds_behind behind = count_by (λ s. is_sound s.step) (before_first (λ s. ends_tuplets s.step) behind)
+unfoldable pub sounds_after : Steps → ℕ
+sounds_after following = count_by (λ s. is_sound s.step) (before_first (λ s. ends_tuplets s.step) following)
 
 -- a tuplet that does not fit would be inside two, or has more events than the one around it still takes
 abbrev pub misfit_of : OpenTuplets → FaultKind
@@ -48,8 +48,8 @@ misfit_of _ = FaultKind.TupletCrosses
 
 -- a tuplet that fits is short if the measure ends before it has its events
 abbrev pub tuplet_faults : ℕ → OpenTuplets → PlacedStep → Steps → List Fault
-tuplet_faults r open_ones at behind =
-    if fits r open_ones then fault_if (nat_lt (sounds_behind behind) r) FaultKind.TupletShort at
+tuplet_faults r open_ones at following =
+    if fits r open_ones then fault_if (nat_lt (sounds_after following) r) FaultKind.TupletShort at
     else step_fault (misfit_of open_ones) at ∷ []
 
 -- Heads. They range from 14 steps below the bottom line of the staff to 22 above it.
@@ -86,8 +86,8 @@ sound_faults_if undrawable now at s =
     ++ fault_if (is_past (measure_of now)) FaultKind.TooManyMeasures at
 
 unfoldable pub sound_faults : VoiceState → Steps → PlacedStep → WrittenSound → Steps → List Fault
-sound_faults now before at s behind =
-    let length = written_length now.force.unit s before behind in
+sound_faults now before at s following =
+    let length = written_length now.force.unit s before following in
     sound_faults_if (is_none (parts_list length.num length.den)) now at s
 
 -- whole measure rests, without their graces: the last of them must be in a good measure too
@@ -97,16 +97,16 @@ rest_faults now at count =
     ++ fault_if (is_past (measure_of now + (count - 1))) FaultKind.TooManyMeasures at
 
 unfoldable pub faults_of : VoiceState → Steps → PlacedStep → Steps → Step → List Fault
-faults_of now before at behind (Step.Sound s) =
-    sound_faults now before at s behind ++ grace_faults now.force.clef (since_event before)
-faults_of now before at behind (Step.Measures seen count) =
+faults_of now before at following (Step.Sound s) =
+    sound_faults now before at s following ++ grace_faults now.force.clef (since_event before)
+faults_of now before at following (Step.Measures seen count) =
     rest_faults now at count ++ grace_faults now.force.clef (since_event before)
-faults_of now before at behind (Step.Tuplet p q r) = tuplet_faults (or_default p r) now.taking at behind
-faults_of now before at behind (Step.Broken right dots) =
-    fault_if (not (has_left before && has_right behind)) FaultKind.BrokenAlone at
-faults_of now before at behind _ = []
+faults_of now before at following (Step.Tuplet p q r) = tuplet_faults (or_default p r) now.taking at following
+faults_of now before at following (Step.Broken right dots) =
+    fault_if (not (has_left before && has_right following)) FaultKind.BrokenAlone at
+faults_of now before at following _ = []
 
 abbrev pub faults_in : InForce → Steps → Steps → List Fault
 faults_in first before [] = []
-faults_in first before (at ∷ behind) =
-    faults_of (state_at first before) before at behind at.step ++ faults_in first (at ∷ before) behind
+faults_in first before (at ∷ following) =
+    faults_of (state_at first before) before at following at.step ++ faults_in first (at ∷ before) following

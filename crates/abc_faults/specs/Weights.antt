@@ -31,8 +31,8 @@ count_parts (Some values) = length values
 
 -- the heads of a note or a chord, or the one rest, times its parts
 unfoldable pub sound_count : VoiceState → Steps → WrittenSound → Steps → ℕ
-sound_count now before s behind =
-    let whole = written_length now.force.unit s before behind in
+sound_count now before s following =
+    let whole = written_length now.force.unit s before following in
     max 1 (length s.heads) * count_parts (parts_list whole.num whole.den)
 
 abbrev pub grace_count : List GraceChord → ℕ
@@ -47,29 +47,29 @@ abbrev pub grace_weights : Steps → List Weight
 grace_weights waits = flat_map (λ s. grace_weights_of s s.step) waits
 
 unfoldable pub weights_of : VoiceState → Steps → PlacedStep → Steps → Step → List Weight
-weights_of now before at behind (Step.Sound s) =
-    grace_weights (since_event before) ++ weight_at (sound_count now before s behind) at ∷ []
-weights_of now before at behind (Step.Measures seen count) =
+weights_of now before at following (Step.Sound s) =
+    grace_weights (since_event before) ++ weight_at (sound_count now before s following) at ∷ []
+weights_of now before at following (Step.Measures seen count) =
     grace_weights (since_event before) ++ weight_at count at ∷ []
-weights_of now before at behind _ = []
+weights_of now before at following _ = []
 
 -- each step of a voice in turn, with the steps before it, the nearest first, and the steps after it
 abbrev pub weights_in : InForce → Steps → Steps → List Weight
 weights_in first before [] = []
-weights_in first before (at ∷ behind) =
-    weights_of (state_at first before) before at behind at.step ++ weights_in first (at ∷ before) behind
+weights_in first before (at ∷ following) =
+    weights_of (state_at first before) before at following at.step ++ weights_in first (at ∷ before) following
 
 -- whether one weight comes before the other in the text, whatever their voices
 unfoldable pub stands_before : Weight → Weight → Bool
 stands_before v w = is_below_or_tied v.line w.line (nat_lt v.column w.column)
 
 -- in the order of the text: no weight comes before one that is listed earlier
-abbrev pub IsBehind : Weight → Weight → Type 0
-IsBehind w v = stands_before v w ≡ false
+abbrev pub IsAfter : Weight → Weight → Type 0
+IsAfter w v = stands_before v w ≡ false
 
 abbrev pub AreInOrder : List Weight → Type 0
 AreInOrder [] = ⊤
-AreInOrder (w ∷ ws) = AllByRecursion (IsBehind w) ws × AreInOrder ws
+AreInOrder (w ∷ ws) = AllByRecursion (IsAfter w) ws × AreInOrder ws
 
 -- the count at places up to that of a weight, including the weight itself
 abbrev pub count_up_to : Weight → Weight → ℕ

@@ -2,7 +2,7 @@ ghost use Rattle.std.specs.Prelude.{◌≡◌, ◌≤◌, ◌^◌, ◌++◌, ◌
 ghost use Rattle.std.specs.List.{All};
 ghost use Rattle.abc_steps.specs.{declared.step.Step.Step, Looks.since_event, Lengths.parts_at};
 ghost use Rattle.abc_faults.specs.First.{first_of};
-ghost use Rattle.abc_faults.specs.Faults.{step_fault, fault_if, ends_tuplets, sounds_behind, misfit_of, tuplet_faults};
+ghost use Rattle.abc_faults.specs.Faults.{step_fault, fault_if, ends_tuplets, sounds_after, misfit_of, tuplet_faults};
 ghost use Rattle.abc_faults.specs.Faults.{is_off, any_off, any_grace_off, grace_faults_of, grace_faults, is_past};
 ghost use Rattle.abc_faults.specs.Faults.{is_free, sound_faults_if, sound_faults, rest_faults, faults_of};
 ghost use Rattle.abc_faults.specs.Weights.{weight_at, capped, sound_count, grace_weights, weights_of};
@@ -46,12 +46,12 @@ fn ends_tuplets(s: &Step) -> bool
 }
 
 /// Returns whether fewer than `r` events with a length come before the end of the measure.
-#[tactic(auto, unfolding(crate::specs::Faults::sounds_behind))]
-fn is_short(r: u8, behind: &[PlacedStep]) -> bool
-    ensures { result ≡ nat_lt (sounds_behind behind.now) r }
+#[tactic(auto, unfolding(crate::specs::Faults::sounds_after))]
+fn is_short(r: u8, following: &[PlacedStep]) -> bool
+    ensures { result ≡ nat_lt (sounds_after following.now) r }
 {
     let mut left = r;
-    for s in behind {
+    for s in following {
         if left == 0 || ends_tuplets(&s.step) {
             break;
         }
@@ -72,11 +72,16 @@ fn misfit_of(taking: OpenTuplets) -> FaultKind
 }
 
 #[inline(never)]
-fn tuplet_fault(r: u8, taking: OpenTuplets, at: &PlacedStep, behind: &[PlacedStep]) -> Option<Fault>
-    ensures { result ≡ first_of (tuplet_faults r taking at.now behind.now) }
+fn tuplet_fault(
+    r: u8,
+    taking: OpenTuplets,
+    at: &PlacedStep,
+    following: &[PlacedStep],
+) -> Option<Fault>
+    ensures { result ≡ first_of (tuplet_faults r taking at.now following.now) }
 {
     if fits(r, taking) {
-        fault_if(is_short(r, behind), FaultKind::TupletShort, at)
+        fault_if(is_short(r, following), FaultKind::TupletShort, at)
     } else {
         Some(step_fault(misfit_of(taking), at))
     }
@@ -172,22 +177,22 @@ fn judge_sound(
     at: &PlacedStep,
     s: &StoredSound,
     parts: &Option<Few<Value>>,
-    behind: &[PlacedStep],
+    following: &[PlacedStep],
 ) -> Result<Option<Fault>, Memory>
     requires groups { now.now.counts.groups ≤ 2 ^ 30 }
     requires further { now.now.counts.further ≤ 2 ^ 46 }
-    requires parts { parts.now ≡ parts_at now.now.force.unit (reverse before.now) (Step.Sound s.now) behind.now }
+    requires parts { parts.now ≡ parts_at now.now.force.unit (reverse before.now) (Step.Sound s.now) following.now }
     ensures fault { IfOk result (λ f.
         f
         ≡ first_of
-        (sound_faults now.now (reverse before.now) at.now s.now behind.now
+        (sound_faults now.now (reverse before.now) at.now s.now following.now
         ++ grace_faults now.now.force.clef (since_event (reverse before.now)))) }
     ensures weights { OnOk result
         (weights.new
         ≡ weights.old
         ++ map capped
         (grace_weights (since_event (reverse before.now))
-        ++ weight_at (sound_count now.now (reverse before.now) s.now behind.now) at.now ∷ [])) }
+        ++ weight_at (sound_count now.now (reverse before.now) s.now following.now) at.now ∷ [])) }
 {
     let waits = since_event(before);
     put_graces(weights, waits)?;
@@ -254,23 +259,28 @@ pub fn judge_step(
     before: &[PlacedStep],
     at: &PlacedStep,
     parts: &Option<Few<Value>>,
-    behind: &[PlacedStep],
+    following: &[PlacedStep],
 ) -> Result<Option<Fault>, Memory>
     requires groups { now.now.counts.groups ≤ 2 ^ 30 }
     requires further { now.now.counts.further ≤ 2 ^ 46 }
-    requires parts { parts.now ≡ parts_at now.now.force.unit (reverse before.now) at.now.step behind.now }
+    requires parts { parts.now ≡ parts_at now.now.force.unit (reverse before.now) at.now.step following.now }
     ensures fault { IfOk result
-        (λ f. f ≡ first_of (faults_of now.now (reverse before.now) at.now behind.now at.now.step)) }
+        (λ f. f ≡ first_of (faults_of now.now (reverse before.now) at.now following.now at.now.step)) }
     ensures weights { OnOk result
         (weights.new
-        ≡ weights.old ++ map capped (weights_of now.now (reverse before.now) at.now behind.now at.now.step)) }
+        ≡ weights.old ++ map capped (weights_of now.now (reverse before.now) at.now following.now at.now.step)) }
 {
     match &at.step {
-        Step::Sound(s) => judge_sound(weights, now, before, at, s, parts, behind),
+        Step::Sound(s) => judge_sound(weights, now, before, at, s, parts, following),
         Step::Measures { seen: _, count } => judge_rests(weights, now, before, at, *count),
-        Step::Tuplet { p, q: _, r } => Ok(tuplet_fault(or_default(*p, *r), now.taking, at, behind)),
+        Step::Tuplet { p, q: _, r } => Ok(tuplet_fault(
+            or_default(*p, *r),
+            now.taking,
+            at,
+            following,
+        )),
         Step::Broken { right: _, dots: _ } => {
-            let alone = !(has_left(before) && has_right(behind));
+            let alone = !(has_left(before) && has_right(following));
             Ok(fault_if(alone, FaultKind::BrokenAlone, at))
         }
         _ => Ok(None),

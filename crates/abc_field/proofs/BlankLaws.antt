@@ -17,30 +17,32 @@ abbrev pub Stops : (ℕ → Bool) → List ℕ → Type 0
 Stops p [] = ⊤
 Stops p (b ∷ s) = p b ≡ false
 
-pub prefix-stops : (p : ℕ → Bool) (front rest : List ℕ)
-    → list_all p front ≡ true → Stops p rest → prefix_len p (front ++ rest) ≡ length front
+pub prefix-stops : (p : ℕ → Bool) (leading rest : List ℕ)
+    → list_all p leading ≡ true → Stops p rest → prefix_len p (leading ++ rest) ≡ length leading
 prefix-stops p [] [] all stops = refl
 prefix-stops p [] (b ∷ rest) all stops = rw stops refl
-prefix-stops p (b ∷ front) rest all stops =
+prefix-stops p (b ∷ leading) rest all stops =
     let here : p b ≡ true = (and_parts _ _ all).0 in
-    let more = prefix-stops p front rest (and_parts _ _ all).1 stops in
+    let more = prefix-stops p leading rest (and_parts _ _ all).1 stops in
     rw here (omega (arith, more))
 
-pub front-stops : (p : ℕ → Bool) (s : List ℕ) → Stops p (drop (prefix_len p s) s)
-front-stops p [] = tt
-front-stops p (b ∷ s) =
-    by_test (p b)
-    (λ e.
-    let one : 1 + prefix_len p s ≡ suc (prefix_len p s) = omega arith in let more = front-stops p s in rw (e, one) more)
-    (λ e. rw e e)
-
-pub front-passes : (p : ℕ → Bool) (s : List ℕ) → list_all p (take (prefix_len p s) s) ≡ true
-front-passes p [] = refl
-front-passes p (b ∷ s) =
+pub leading-stops : (p : ℕ → Bool) (s : List ℕ) → Stops p (drop (prefix_len p s) s)
+leading-stops p [] = tt
+leading-stops p (b ∷ s) =
     by_test (p b)
     (λ e.
     let one : 1 + prefix_len p s ≡ suc (prefix_len p s) = omega arith in
-    let more = front-passes p s in
+    let more = leading-stops p s in
+    rw (e, one) more)
+    (λ e. rw e e)
+
+pub leading-passes : (p : ℕ → Bool) (s : List ℕ) → list_all p (take (prefix_len p s) s) ≡ true
+leading-passes p [] = refl
+leading-passes p (b ∷ s) =
+    by_test (p b)
+    (λ e.
+    let one : 1 + prefix_len p s ≡ suc (prefix_len p s) = omega arith in
+    let more = leading-passes p s in
     rw (e, one) (rw (e, more) refl))
     (λ e. rw e refl)
 
@@ -59,35 +61,35 @@ none-stops p (b ∷ s) none = not-true (p b) (and_parts _ _ none).0
 pub cut-reversed : (n : ℕ) (s : List ℕ) → n ≤ length s
     → (take n (reverse s) ≡ reverse (drop (length s - n) s)) × (drop n (reverse s) ≡ reverse (take (length s - n) s))
 cut-reversed n s few =
-    let front : List ℕ = take (length s - n) s in
+    let leading : List ℕ = take (length s - n) s in
     let back : List ℕ = drop (length s - n) s in
-    let parts : reverse s ≡ reverse back ++ reverse front =
-    ap reverse (sym (take-append-drop (length s - n) s)) ∙ reverse-append front back in
+    let parts : reverse s ≡ reverse back ++ reverse leading =
+    ap reverse (sym (take-append-drop (length s - n) s)) ∙ reverse-append leading back in
     let size : n ≡ length (reverse back) = omega (arith, length-reverse back, length-drop (length s - n) s) in (
       ap (take n) parts
-          ∙ ap (λ k. take k (reverse back ++ reverse front)) size
-          ∙ take-append_seam (reverse back) (reverse front),
+          ∙ ap (λ k. take k (reverse back ++ reverse leading)) size
+          ∙ take-append_seam (reverse back) (reverse leading),
       ap (drop n) parts
-          ∙ ap (λ k. drop k (reverse back ++ reverse front)) size
-          ∙ drop-append_seam (reverse back) (reverse front),
+          ∙ ap (λ k. drop k (reverse back ++ reverse leading)) size
+          ∙ drop-append_seam (reverse back) (reverse leading),
     )
 
 suffix-passes : (p : ℕ → Bool) (s : List ℕ) → list_all p (drop (length s - suffix_len p s) s) ≡ true
 suffix-passes p s =
     let back : List ℕ = drop (length s - suffix_len p s) s in
     let same = (cut-reversed (suffix_len p s) s (suffix_len-le-length p s)).0 in
-    let passes = subst (λ t. list_all p t ≡ true) same (front-passes p (reverse s)) in
+    let passes = subst (λ t. list_all p t ≡ true) same (leading-passes p (reverse s)) in
     subst (λ t. list_all p t ≡ true) (reverse-reverse back) (reversed-passes p (reverse back) passes)
 
 -- Blanks.
-pub behind-cons : (b : ℕ) (s : List ℕ) → is_blank b ≡ true → after_blanks (b ∷ s) ≡ after_blanks s
-behind-cons b s e =
+pub following-cons : (b : ℕ) (s : List ℕ) → is_blank b ≡ true → after_blanks (b ∷ s) ≡ after_blanks s
+following-cons b s e =
     let more : 1 + prefix_len is_blank s ≡ suc (prefix_len is_blank s) = omega arith in rw (e, more) refl
 
 pub blanks-passed : (blanks s : List ℕ) → list_all is_blank blanks ≡ true → after_blanks (blanks ++ s) ≡ after_blanks s
 blanks-passed [] s all = refl
 blanks-passed (b ∷ blanks) s all =
-    let parts = and_parts _ _ all in behind-cons b (blanks ++ s) parts.0 ∙ blanks-passed blanks s parts.1
+    let parts = and_parts _ _ all in following-cons b (blanks ++ s) parts.0 ∙ blanks-passed blanks s parts.1
 
 pub blanks-gone : (s : List ℕ) → list_all is_blank s ≡ true → after_blanks s ≡ []
 blanks-gone s all = ap after_blanks (sym (append-nil s)) ∙ blanks-passed s [] all
@@ -101,15 +103,15 @@ unfolding trimmed
 trimmed-between text =
     let rest : List ℕ = after_blanks text in
     let size : ℕ = length rest - suffix_len is_blank rest in
-    let front : List ℕ = take (prefix_len is_blank text) text in
+    let leading : List ℕ = take (prefix_len is_blank text) text in
     record {
-      front = front;
+      leading = leading;
       back = drop size rest;
-      front_blank = front-passes is_blank text;
+      prefix_blank = leading-passes is_blank text;
       back_blank = suffix-passes is_blank rest;
       cut =
           sym (take-append-drop (prefix_len is_blank text) text)
-          ∙ ap (λ t. front ++ t) (sym (take-append-drop size rest));
+          ∙ ap (λ t. leading ++ t) (sym (take-append-drop size rest));
     }
 
 abbrev ended : List ℕ → List ℕ
@@ -138,7 +140,7 @@ pub bare-trimmed : (text core : List ℕ)
     → Stops is_blank core → Stops is_blank (reverse core) → IsBetweenBlanks text core → trimmed text ≡ core
 unfolding trimmed
 bare-trimmed text core begins ends between =
-    rw (between.cut, blanks-passed between.front (core ++ between.back) between.front_blank)
+    rw (between.cut, blanks-passed between.leading (core ++ between.back) between.prefix_blank)
     (core-left core between.back begins ends between.back_blank)
 
 -- so is a part that has no blank at all

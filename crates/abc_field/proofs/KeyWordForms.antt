@@ -15,8 +15,8 @@ use Rattle.abc_field.specs.Keys.{natural_letter, letter_of, letter_alone, signed
 use Rattle.abc_field.specs.Keys.{by_clef, by_sign, key_word, key_words}
 use Rattle.abc_field.specs.VoiceSpelling.{ClefForm, plain_clef, above_clef, below_clef, clef_spelled}
 use Rattle.abc_field.specs.Words.{after_prefix}
-use Rattle.abc_field.proofs.MeterForms.{behind-takes, behind-front}
-use Rattle.abc_field.proofs.VoiceForms.{clef-read, clef-takes, no_clef_read, no_front, clef_behind}
+use Rattle.abc_field.proofs.MeterForms.{following-takes, following-leading}
+use Rattle.abc_field.proofs.VoiceForms.{clef-read, clef-takes, no_clef_read, no_prefix, clef_after}
 use Rattle.abc_field.proofs.ReadLaws.{Where, where_read, where_then, where_or, where_map, option_case, byte_case}
 use Rattle.abc_field.proofs.ReadLaws.{word_case, HasForm, formed, unread}
 use Rattle.abc_field.proofs.ReadLaws.{none_read, HaveForms, more_forms}
@@ -62,7 +62,7 @@ signed-takes : (w : List ℕ) (alter : Alter)
     → Where (IsSign w) (signed_letter alter (after_prefix (alter_spelled alter) w))
 signed-takes w alter =
     option_case (λ o. Where (IsSign w) (signed_letter alter o)) (after_prefix (alter_spelled alter) w)
-    (λ s e. where_map _ (letter_alone s) (alone s (behind-takes (alter_spelled alter) w s e)) (λ sign. sign))
+    (λ s e. where_map _ (letter_alone s) (alone s (following-takes (alter_spelled alter) w s e)) (λ sign. sign))
     (λ none. tt)
   where
     alone : (s : List ℕ) → w ≡ alter_spelled alter ++ s → Where (IsSign w) (letter_alone s)
@@ -119,7 +119,7 @@ word-passed w good =
     let no_sign =
     none_read (sign_of w) (sign-takes w) (λ sign. good.no_sign sign.alter sign.letter sign.lower sign.spelled) in
     let no_name = no_clef_read w (λ form. no_equals w (clef_spelled form) equals (clef-no-equals form)) in
-    rw (no_exp, no_sign, no_front (codes "clef=") w good.no_clef, no_name, equals) refl
+    rw (no_exp, no_sign, no_prefix (codes "clef=") w good.no_clef, no_name, equals) refl
 
 word-read : (form : KeyWordForm) → IsGoodWord form → key_word (word_spelled form) ≡ Some (word_meant form)
 unfolding key_word sign_of after_prefix clef_of
@@ -143,14 +143,14 @@ word-takes w =
     (λ sign e.
     let found = where_read e (sign-takes w) in formed (sign_word found.alter found.letter found.lower) tt found.spelled)
     (λ no_sign. option_case (λ o. Where (IsWord w) (by_clef w o)) (after_prefix (codes "clef=") w)
-    (λ name e. where_map _ (clef_of name) (clef_behind w name e) (λ clef. formed (clef_word clef.form) tt clef.spelled))
+    (λ name e. where_map _ (clef_of name) (clef_after w name e) (λ clef. formed (clef_word clef.form) tt clef.spelled))
     (λ no_clef. option_case (λ o. Where (IsWord w) (by_name w o)) (clef_of w)
     (λ clef e. let found = where_read e (clef-takes w) in formed (name_word found.form) tt found.spelled)
     (λ no_name. cond_both (has_equals w) _ _ (Where (IsWord w))
     (λ equals. formed (passed_word w) (record {
       equals = equals;
       no_sign = λ alter letter lower. unread sign_of no_sign (sign-read alter letter lower);
-      no_clef = λ name. unread (after_prefix (codes "clef=")) no_clef (behind-front (codes "clef=") name);
+      no_clef = λ name. unread (after_prefix (codes "clef=")) no_clef (following-leading (codes "clef=") name);
     }) refl)
     (λ other. tt)))))
 

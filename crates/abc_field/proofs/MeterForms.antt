@@ -12,7 +12,7 @@ use Rattle.mus_units.specs.declared.key.Meter.{Meter}
 use Rattle.mus_units.specs.declared.value.Frac.{Frac}
 use Rattle.mus_units.specs.Good.{is_halving}
 use Rattle.abc_lines.specs.Kinds.{is_blank}
-use Rattle.abc_field.specs.Meters.{is_plus, halving_of, with_terms, plus, sum_of, ratio, below_of, below_behind}
+use Rattle.abc_field.specs.Meters.{is_plus, halving_of, with_terms, plus, sum_of, ratio, below_of, below_after}
 use Rattle.abc_field.specs.Meters.{plain_ratio, wrapped_ratio, ratio_by}
 use Rattle.abc_field.specs.Meters.{terms_after, ratio_of, meter_at, meter_of, one_over, unit_at, unit_of}
 use Rattle.abc_field.specs.MeterSpelling.{MeterForm, common_form, cut_form, none_form, empty_form, sum_form}
@@ -21,9 +21,9 @@ use Rattle.abc_field.specs.MeterSpelling.{IsGoodSum, IsGoodMeterForm, meter_mean
 use Rattle.abc_field.specs.MeterSpelling.{over_form, unit_spelled}
 use Rattle.abc_field.specs.MeterSpelling.{IsGoodUnitForm, unit_meant, SaysUnit}
 use Rattle.abc_field.specs.Numbers.{is_digit, is_number, value_of, number_of, place_of_byte, before, from_first}
-use Rattle.abc_field.specs.Numbers.{behind_one}
+use Rattle.abc_field.specs.Numbers.{after_one}
 use Rattle.abc_field.specs.Words.{trimmed, after_prefix}
-use Rattle.abc_field.proofs.BlankLaws.{Stops, front-stops, prefix-stops, trimmed-between, between-trimmed}
+use Rattle.abc_field.proofs.BlankLaws.{Stops, leading-stops, prefix-stops, trimmed-between, between-trimmed}
 use Rattle.abc_field.proofs.MeterLaws.{split_cut}
 use Rattle.abc_field.proofs.ReadLaws.{Where, where_read, where_then, option_case, word_case, HasForm, formed}
 use Rattle.abc_field.proofs.ReadLaws.{form_meant}
@@ -46,35 +46,37 @@ cut-at byte s rest all stops =
     let place : place_of_byte byte (s ++ rest) ≡ length s = prefix-stops (other byte) s rest all stops in
     (rw place (take-append_seam s rest), rw place (drop-append_seam s rest))
 
-begun : (byte : ℕ) (t : List ℕ) → Stops (other byte) t → (behind_one t ≡ [] → ⊥) → t ≡ byte ∷ behind_one t
+begun : (byte : ℕ) (t : List ℕ) → Stops (other byte) t → (after_one t ≡ [] → ⊥) → t ≡ byte ∷ after_one t
 begun byte [] stops some = absurd (some refl)
 begun byte (b ∷ t) stops some = ap (λ c. c ∷ t) (eqb-true b byte (not-false _ stops))
 
 -- if something follows such a byte, the first such byte separates the text
 parted : (byte : ℕ) (s : List ℕ)
-    → (behind_one (from_first byte s) ≡ [] → ⊥) → s ≡ before byte s ++ byte ∷ behind_one (from_first byte s)
+    → (after_one (from_first byte s) ≡ [] → ⊥) → s ≡ before byte s ++ byte ∷ after_one (from_first byte s)
 unfolding before from_first
 parted byte s some =
     let n : ℕ = place_of_byte byte s in
-    sym (take-append-drop n s) ∙ ap (λ t. take n s ++ t) (begun byte (drop n s) (front-stops (other byte) s) some)
+    sym (take-append-drop n s) ∙ ap (λ t. take n s ++ t) (begun byte (drop n s) (leading-stops (other byte) s) some)
 
 -- What follows a prefix.
-pub behind-takes : (front s rest : List ℕ) → after_prefix front s ≡ Some rest → s ≡ front ++ rest
+pub following-takes : (leading s rest : List ℕ) → after_prefix leading s ≡ Some rest → s ≡ leading ++ rest
 unfolding after_prefix
-behind-takes front s rest h =
-    cond_both (starts_with nat_eq s front) (Some (drop (length front) s)) None (λ o. o ≡ Some rest → s ≡ front ++ rest)
+following-takes leading s rest h =
+    cond_both (starts_with nat_eq s leading) (Some (drop (length leading) s)) None
+    (λ o. o ≡ Some rest → s ≡ leading ++ rest)
     (λ begins left.
-    let same = (bytes_eq-Decides front (take (length front) s)).0 begins in
-    sym (take-append-drop (length front) s)
-    ∙ ap (λ t. t ++ drop (length front) s) (sym same)
-    ∙ ap (λ t. front ++ t) (same_Some _ rest left))
+    let same = (bytes_eq-Decides leading (take (length leading) s)).0 begins in
+    sym (take-append-drop (length leading) s)
+    ∙ ap (λ t. t ++ drop (length leading) s) (sym same)
+    ∙ ap (λ t. leading ++ t) (same_Some _ rest left))
     (λ other nothing. absurd (none_is_some rest nothing)) h
 
-pub behind-front : (front rest : List ℕ) → after_prefix front (front ++ rest) ≡ Some rest
+pub following-leading : (leading rest : List ℕ) → after_prefix leading (leading ++ rest) ≡ Some rest
 unfolding after_prefix
-behind-front front rest =
-    let same = (bytes_eq-Decides front (take (length front) (front ++ rest))).1 (sym (take-append_seam front rest)) in
-    rw (same, drop-append_seam front rest) refl
+following-leading leading rest =
+    let same =
+    (bytes_eq-Decides leading (take (length leading) (leading ++ rest))).1 (sym (take-append_seam leading rest)) in
+    rw (same, drop-append_seam leading rest) refl
 
 -- A test that each of the ten digits passes.
 abbrev DigitsPass : (ℕ → Bool) → Type 0
@@ -196,17 +198,17 @@ below-reaches : (s : List ℕ) → is_number s ≡ true → is_halving (value_of
 unfolding number_of
 below-reaches s number halving = rw (number, halving) refl
 
-record IsBehind (front s : List ℕ) : Type 0 where
+record IsAfter (leading s : List ℕ) : Type 0 where
   below : List ℕ
   half : IsBelow below
-  cut : s ≡ front ++ below
+  cut : s ≡ leading ++ below
 
-behind_below : (front s : List ℕ) → Where (IsBehind front s) (below_behind (after_prefix front s))
-behind_below front s =
-    option_case (λ o. Where (IsBehind front s) (below_behind o)) (after_prefix front s)
+after_below : (leading s : List ℕ) → Where (IsAfter leading s) (below_after (after_prefix leading s))
+after_below leading s =
+    option_case (λ o. Where (IsAfter leading s) (below_after o)) (after_prefix leading s)
     (λ below is.
     where_then (below_of below) (below-takes below)
-    (λ half. record { below = below; half = half; cut = behind-takes front s below is }))
+    (λ half. record { below = below; half = half; cut = following-takes leading s below is }))
     (λ none. tt)
 
 -- Both, in parentheses or not.
@@ -230,7 +232,7 @@ plain-takes : (s : List ℕ) → Where (IsMeter s) (plain_ratio s)
 unfolding plain_ratio
 plain-takes s =
     let above : List ℕ = before 47 s in
-    let below : List ℕ = behind_one (from_first 47 s) in
+    let below : List ℕ = after_one (from_first 47 s) in
     ratio-takes (sum_of above) (below_of below) (sum-takes above) (below-takes below)
     (λ sum half. formed (sum_form sum.terms below) (sum-good above below sum half)
     (parted 47 s (no_number below half.number) ∙ ap (λ t. t ++ 47 ∷ below) sum.joined))
@@ -239,9 +241,9 @@ wrapped-takes : (s : List ℕ) → Where (IsMeter (40 ∷ s)) (wrapped_ratio s)
 unfolding wrapped_ratio
 wrapped-takes s =
     let above : List ℕ = before 41 s in
-    let after : List ℕ = behind_one (from_first 41 s) in
-    ratio-takes (sum_of above) (below_behind (after_prefix (codes "/") after)) (sum-takes above)
-    (behind_below (codes "/") after)
+    let after : List ℕ = after_one (from_first 41 s) in
+    ratio-takes (sum_of above) (below_after (after_prefix (codes "/") after)) (sum-takes above)
+    (after_below (codes "/") after)
     (λ sum low.
     let closed = parted 41 s (λ empty. let slash = low.cut in cc) in
     let all = closed ∙ ap (λ t. t ++ 41 ∷ after) sum.joined ∙ ap (λ t. join_with_byte 43 sum.terms ++ 41 ∷ t) low.cut in
@@ -252,7 +254,7 @@ unfolding ratio_of
 ratio_of-takes s =
     option_case (λ o. Where (IsMeter s) (ratio_by s o)) (after_prefix (codes "(") s)
     (λ inside is. where_then (wrapped_ratio inside) (wrapped-takes inside)
-    (λ meter. formed meter.form meter.good (behind-takes (codes "(") s inside is ∙ meter.spelled)))
+    (λ meter. formed meter.form meter.good (following-takes (codes "(") s inside is ∙ meter.spelled)))
     (λ none. plain-takes s)
 
 meter_at-takes : (s : List ℕ) → Where (IsMeter s) (meter_at s)
@@ -352,10 +354,10 @@ unit_at-takes : (s : List ℕ) → Where (HasForm unit_spelled IsGoodUnitForm s)
 unfolding unit_at
 unit_at-takes s =
     word_case (Where (HasForm unit_spelled IsGoodUnitForm s)) s (codes "1") _ _ (formed whole_form tt)
-    (λ _. over (below_behind (after_prefix (codes "1/") s)) (behind_below (codes "1/") s))
+    (λ _. over (below_after (after_prefix (codes "1/") s)) (after_below (codes "1/") s))
   where
     over : (o : Option ℕ)
-        → Where (IsBehind (codes "1/") s) o → Where (HasForm unit_spelled IsGoodUnitForm s) (one_over o)
+        → Where (IsAfter (codes "1/") s) o → Where (HasForm unit_spelled IsGoodUnitForm s) (one_over o)
     over None low = tt
     over (Some d) low = formed (over_form low.below) (low.half.number, low.half.halving) low.cut
 

@@ -21,7 +21,7 @@ use Rattle.abc_field.specs.Words.{next_word, properties_of, ends_quoted, after_p
 use Rattle.abc_field.specs.WordSpelling.{IsFirstWord}
 use Rattle.abc_field.specs.Voices.{wish_of, by_stem, by_clef, voice_word, voice_words, voice_def, is_good_voice}
 use Rattle.abc_field.specs.Voices.{voice_by_id, voice_of}
-use Rattle.abc_field.proofs.{MeterForms.{behind-takes, behind-front}, WordForms.{first-takes, first-read}}
+use Rattle.abc_field.proofs.{MeterForms.{following-takes, following-leading}, WordForms.{first-takes, first-read}}
 use Rattle.abc_field.proofs.ReadLaws.{Where, where_read, where_then, where_map, option_case, word_case, HasForm, formed}
 use Rattle.abc_field.proofs.ReadLaws.{unread, none_read, nothing}
 use Rattle.abc_field.proofs.ReadLaws.{HaveForms, more_forms}
@@ -72,14 +72,14 @@ clef-takes w = by_end _ _ refl refl
 pub no_clef_read : (w : List ℕ) → ((form : ClefForm) → w ≡ clef_spelled form → ⊥) → clef_of w ≡ None
 no_clef_read w none = none_read (clef_of w) (clef-takes w) (λ clef. none clef.form clef.spelled)
 
-pub no_front : (front w : List ℕ) → ((rest : List ℕ) → w ≡ front ++ rest → ⊥) → after_prefix front w ≡ None
-no_front front w none = nothing (after_prefix front w) (behind-takes front w) none
+pub no_prefix : (leading w : List ℕ) → ((rest : List ℕ) → w ≡ leading ++ rest → ⊥) → after_prefix leading w ≡ None
+no_prefix leading w none = nothing (after_prefix leading w) (following-takes leading w) none
 
-pub clef_behind : (w name : List ℕ) → after_prefix (codes "clef=") w ≡ Some name
+pub clef_after : (w name : List ℕ) → after_prefix (codes "clef=") w ≡ Some name
     → Where (HasForm (λ clef. codes "clef=" ++ clef_spelled clef) (λ _. ⊤) w) (clef_of name)
-clef_behind w name e =
+clef_after w name e =
     where_then (clef_of name) (clef-takes name)
-    (λ clef. formed clef.form tt (behind-takes (codes "clef=") w name e ∙ ap (λ t. codes "clef=" ++ t) clef.spelled))
+    (λ clef. formed clef.form tt (following-takes (codes "clef=") w name e ∙ ap (λ t. codes "clef=" ++ t) clef.spelled))
 
 -- Properties.
 property-read : (form : PropertyForm)
@@ -88,8 +88,8 @@ unfolding voice_word after_prefix clef_of
 property-read (clef_property clef) good = ap (λ o. option_map (λ c. VoiceWord.Names c) o) (clef-read clef)
 property-read (other_property word) good =
     rw (
-      no_front (codes "clef=") word good.no_clef,
-      no_front (codes "stem=") word good.no_stem,
+      no_prefix (codes "clef=") word good.no_clef,
+      no_prefix (codes "stem=") word good.no_stem,
       no_clef_read word good.no_name,
     ) refl
 property-read (stem_property Wish.Up) good = refl
@@ -115,17 +115,17 @@ unfolding voice_word
 property-takes w =
     option_case (λ o. Where (IsProperty w) (by_clef w o)) (after_prefix (codes "clef=") w)
     (λ name e.
-    where_map _ (clef_of name) (clef_behind w name e) (λ clef. formed (clef_property clef.form) tt clef.spelled))
+    where_map _ (clef_of name) (clef_after w name e) (λ clef. formed (clef_property clef.form) tt clef.spelled))
     (λ no_clef. option_case (λ o. Where (IsProperty w) (by_stem w o)) (after_prefix (codes "stem=") w)
     (λ way e. where_map _ (wish_of way) (way-takes way)
     (λ wish.
     formed (stem_property wish.form) tt
-    (behind-takes (codes "stem=") w way e ∙ ap (λ t. codes "stem=" ++ t) wish.spelled)))
+    (following-takes (codes "stem=") w way e ∙ ap (λ t. codes "stem=" ++ t) wish.spelled)))
     (λ no_stem. option_case (λ o. IsProperty w) (clef_of w)
     (λ clef e. let found = where_read e (clef-takes w) in formed (name_property found.form) tt found.spelled)
     (λ no_name. formed (other_property w) (record {
-      no_clef = λ name. unread (after_prefix (codes "clef=")) no_clef (behind-front (codes "clef=") name);
-      no_stem = λ way. unread (after_prefix (codes "stem=")) no_stem (behind-front (codes "stem=") way);
+      no_clef = λ name. unread (after_prefix (codes "clef=")) no_clef (following-leading (codes "clef=") name);
+      no_stem = λ way. unread (after_prefix (codes "stem=")) no_stem (following-leading (codes "stem=") way);
       no_name = λ clef. unread clef_of no_name (clef-read clef);
     }) refl)))
 

@@ -6,9 +6,9 @@ use Rattle.std.{proofs.Math.Seq.{take-append_seam, drop-append_seam}, specs.List
 use Rattle.abc_lines.specs.Kinds.{is_blank, after_blanks}
 use Rattle.abc_field.specs.Words.{is_empty, word_len, word_and_rest, next_word, words_of, words_after}
 use Rattle.abc_field.specs.WordSpelling.{EndsWord, IsFirstWord, HasWords}
-use Rattle.abc_field.proofs.BlankLaws.{front-passes, blanks-passed, blanks-gone, stays}
+use Rattle.abc_field.proofs.BlankLaws.{leading-passes, blanks-passed, blanks-gone, stays}
 use Rattle.abc_field.proofs.ReadLaws.{by_test, option_case, some_holds}
-use Rattle.abc_field.proofs.WordLaws.{BeginsWord, behind-begins, word-some, word-stops, words-next}
+use Rattle.abc_field.proofs.WordLaws.{BeginsWord, following-begins, word-some, word-stops, words-next}
 
 -- The first word.
 word-whole : (s : List ℕ) → list_all (λ c. not (is_blank c)) (take (word_len false false s) s) ≡ true
@@ -21,7 +21,7 @@ first-of text [] is begins = tt
 first-of text (b ∷ s) is begins =
     record {
       blanks = take (prefix_len is_blank text) text;
-      blank = front-passes is_blank text;
+      blank = leading-passes is_blank text;
       some = word-some false b s begins;
       whole = word-whole (b ∷ s);
       parted = word-stops false false (b ∷ s);
@@ -35,7 +35,8 @@ pub first-takes : (text : List ℕ) (next : List ℕ × List ℕ)
     → next_word false text ≡ Some next → IsFirstWord text next.0 next.1
 unfolding next_word
 first-takes text next h =
-    some_holds (λ next. IsFirstWord text next.0 next.1) h (first-of text (after_blanks text) refl (behind-begins text))
+    some_holds (λ next. IsFirstWord text next.0 next.1) h
+    (first-of text (after_blanks text) refl (following-begins text))
 
 word-length : (word rest : List ℕ)
     → list_all (λ b. not (is_blank b)) word ≡ true → EndsWord rest → word_len false false (word ++ rest) ≡ length word
@@ -94,7 +95,7 @@ none-blank text e =
     let nothing = nothing-left (after_blanks text) e in
     let whole : take (prefix_len is_blank text) text ≡ text =
     rw (nothing, append-nil) at (take-append-drop (prefix_len is_blank text) text) in
-    subst (λ t. list_all is_blank t ≡ true) whole (front-passes is_blank text)
+    subst (λ t. list_all is_blank t ≡ true) whole (leading-passes is_blank text)
 
 -- and it is spelled with the words that it has
 pub words-spelled : (words : List (List ℕ)) (text : List ℕ) → words_of text ≡ words → HasWords text words

@@ -5,25 +5,25 @@ use Rattle.abc_lines.specs.Kinds.{is_blank, after_blanks}
 use Rattle.abc_field.specs.Words.{is_empty, quoted_after, parts_words, pieces, words_in, word_len, word_and_rest}
 use Rattle.abc_field.specs.Words.{next_word, words_after}
 use Rattle.abc_field.specs.WordSpelling.{EndsWord}
-use Rattle.abc_field.proofs.{BlankLaws.{behind-cons, front-stops}, ReadLaws.by_test}
+use Rattle.abc_field.proofs.{BlankLaws.{following-cons, leading-stops}, ReadLaws.by_test}
 
 blank_passed : (quotes : Bool) (b : ℕ) (s : List ℕ) → is_blank b ≡ true → words_in quotes (b ∷ s) ≡ words_in quotes s
 unfolding words_in
 blank_passed quotes b s e = rw e refl
 
-words-behind : (quotes : Bool) (s : List ℕ) → words_in quotes s ≡ words_in quotes (after_blanks s)
-words-behind quotes [] = refl
-words-behind quotes (b ∷ s) =
+words-following : (quotes : Bool) (s : List ℕ) → words_in quotes s ≡ words_in quotes (after_blanks s)
+words-following quotes [] = refl
+words-following quotes (b ∷ s) =
     by_test (is_blank b)
-    (λ e. blank_passed quotes b s e ∙ words-behind quotes s ∙ ap (words_in quotes) (sym (behind-cons b s e)))
+    (λ e. blank_passed quotes b s e ∙ words-following quotes s ∙ ap (words_in quotes) (sym (following-cons b s e)))
     (λ e. rw e refl)
 
 abbrev pub BeginsWord : List ℕ → Type 0
 BeginsWord [] = ⊤
 BeginsWord (b ∷ s) = is_blank b ≡ false
 
-pub behind-begins : (s : List ℕ) → BeginsWord (after_blanks s)
-behind-begins s = front-stops is_blank s
+pub following-begins : (s : List ℕ) → BeginsWord (after_blanks s)
+following-begins s = leading-stops is_blank s
 
 abbrev pieces_after : Bool → List ℕ → List (List ℕ)
 pieces_after quotes [] = []
@@ -67,7 +67,7 @@ words-at quotes (b ∷ s) begins =
 -- the words of a text are its first word and the words of the rest
 pub words-next : (quotes : Bool) (s : List ℕ) → words_in quotes s ≡ words_after quotes (next_word quotes s)
 unfolding next_word
-words-next quotes s = words-behind quotes s ∙ words-at quotes (after_blanks s) (behind-begins s)
+words-next quotes s = words-following quotes s ∙ words-at quotes (after_blanks s) (following-begins s)
 
 pub words_next_is : (quotes : Bool) (s : List ℕ) (next : Option (List ℕ × List ℕ)) → next ≡ next_word quotes s
     → words_in quotes s ≡ words_after quotes next

@@ -8,7 +8,7 @@ use Rattle.std.specs.Str.{bytes_eq}
 use Rattle.mus_units.specs.declared.key.Meter.{Meter}
 use Rattle.mus_units.specs.declared.value.Frac.{Frac}
 use Rattle.mus_units.specs.Good.{is_halving}
-use Rattle.abc_field.specs.Numbers.{number_of, before, from_first, behind_one}
+use Rattle.abc_field.specs.Numbers.{number_of, before, from_first, after_one}
 use Rattle.abc_field.specs.Words.{trimmed, after_prefix}
 
 abbrev pub halving_of : Option ℕ → Option ℕ
@@ -44,17 +44,17 @@ ratio (Some num) (Some den) = Some (Meter.Ratio num den)
 abbrev pub below_of : List ℕ → Option ℕ
 below_of s = halving_of (number_of s)
 
-abbrev pub below_behind : Option (List ℕ) → Option ℕ
-below_behind None = None
-below_behind (Some s) = below_of s
+abbrev pub below_after : Option (List ℕ) → Option ℕ
+below_after None = None
+below_after (Some s) = below_of s
 
 unfoldable pub plain_ratio : List ℕ → Option Meter
-plain_ratio s = ratio (sum_of (before (code "/") s)) (below_of (behind_one (from_first (code "/") s)))
+plain_ratio s = ratio (sum_of (before (code "/") s)) (below_of (after_one (from_first (code "/") s)))
 
 unfoldable pub wrapped_ratio : List ℕ → Option Meter
 wrapped_ratio s =
     ratio (sum_of (before (code ")") s))
-    (below_behind (after_prefix (codes "/") (behind_one (from_first (code ")") s))))
+    (below_after (after_prefix (codes "/") (after_one (from_first (code ")") s))))
 
 abbrev pub ratio_by : List ℕ → Option (List ℕ) → Option Meter
 ratio_by s None = plain_ratio s
@@ -81,7 +81,7 @@ one_over (Some n) = Some (record { num = 1; den = n })
 unfoldable pub unit_at : List ℕ → Option Frac
 unit_at s =
     if bytes_eq s (codes "1") then Some (record { num = 1; den = 1 })
-    else one_over (below_behind (after_prefix (codes "1/") s))
+    else one_over (below_after (after_prefix (codes "1/") s))
 
 unfoldable pub unit_of : List ℕ → Option Frac
 unit_of text = unit_at (trimmed text)

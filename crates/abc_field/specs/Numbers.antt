@@ -34,6 +34,6 @@ before byte s = take (place_of_byte byte s) s
 unfoldable pub from_first : ℕ → List ℕ → List ℕ
 from_first byte s = drop (place_of_byte byte s) s
 
-abbrev pub behind_one : List ℕ → List ℕ
-behind_one [] = []
-behind_one (b ∷ s) = s
+abbrev pub after_one : List ℕ → List ℕ
+after_one [] = []
+after_one (b ∷ s) = s

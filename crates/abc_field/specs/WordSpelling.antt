@@ -4,11 +4,11 @@ use Rattle.{abc_lines.specs.Kinds.{is_blank}, abc_field.specs.Words.{is_empty}}
 
 -- the text is `core`, with or without blanks around it
 pub record IsBetweenBlanks (text core : List ℕ) : Type 0 where
-  pub front : List ℕ
+  pub leading : List ℕ
   pub back : List ℕ
-  pub front_blank : IsTrue (list_all is_blank front)
+  pub prefix_blank : IsTrue (list_all is_blank leading)
   pub back_blank : IsTrue (list_all is_blank back)
-  pub cut : text ≡ front ++ (core ++ back)
+  pub cut : text ≡ leading ++ (core ++ back)
 
 -- nothing follows, or a blank does
 abbrev pub EndsWord : List ℕ → Type 0

@@ -61,7 +61,7 @@ next_word quotes s = word_and_rest quotes (after_blanks s)
 
 -- the rest after a prefix, if the text begins with it
 unfoldable pub after_prefix : List ℕ → List ℕ → Option (List ℕ)
-after_prefix front s = if starts_with nat_eq s front then Some (drop (length front) s) else None
+after_prefix leading s = if starts_with nat_eq s leading then Some (drop (length leading) s) else None
 
 -- the words: the first of them and those of the rest
 abbrev pub words_after : Bool → Option (List ℕ × List ℕ) → List (List ℕ)

@@ -172,11 +172,11 @@ fn is_exp(word: KeyWord) -> bool
 fn listed_signs(alloc: Global, words: &[KeyWord]) -> Result<Row<Sign>, Memory>
     ensures { IfOk result (λ row. row ≡ listed_signs words.now) }
 {
-    let (_, counted) = words.split_at(words.len() - behind_exp(words));
+    let (_, counted) = words.split_at(words.len() - after_exp(words));
     signs_in(alloc, counted)
 }
 
-fn behind_exp(words: &[KeyWord]) -> usize
+fn after_exp(words: &[KeyWord]) -> usize
     ensures value { result ≡ suffix_len (λ word. not (is_exp word)) words.now }
     ensures within { result ≤ length words.now }
 {
@@ -331,10 +331,10 @@ fn sign_of(word: &[u8]) -> Option<Sign>
         .or(signed_letter(Alter::Natural, word, b"="))
 }
 
-fn signed_letter(alter: Alter, word: &[u8], front: &[u8]) -> Option<Sign>
-    ensures { result ≡ signed_letter alter (after_prefix front.now word.now) }
+fn signed_letter(alter: Alter, word: &[u8], leading: &[u8]) -> Option<Sign>
+    ensures { result ≡ signed_letter alter (after_prefix leading.now word.now) }
 {
-    match after_prefix(word, front) {
+    match after_prefix(word, leading) {
         Some(rest) => Some(Sign {
             letter: letter_alone(rest)?,
             alter,
@@ -529,40 +529,40 @@ fn mode_by_three(word: &[u8]) -> Option<Mode>
     ])
 }
 
-fn mode_named(front: &[u8]) -> Option<Mode>
-    ensures { result ≡ mode_named front.now }
+fn mode_named(leading: &[u8]) -> Option<Mode>
+    ensures { result ≡ mode_named leading.now }
 {
-    major_like(front).or(minor_like(front))
+    major_like(leading).or(minor_like(leading))
 }
 
-fn major_like(front: &[u8]) -> Option<Mode>
-    ensures { result ≡ major_like front.now }
+fn major_like(leading: &[u8]) -> Option<Mode>
+    ensures { result ≡ major_like leading.now }
 {
-    if is_same(front, b"maj") {
+    if is_same(leading, b"maj") {
         Some(Mode::Maj)
-    } else if is_same(front, b"ion") {
+    } else if is_same(leading, b"ion") {
         Some(Mode::Maj)
-    } else if is_same(front, b"mix") {
+    } else if is_same(leading, b"mix") {
         Some(Mode::Mix)
-    } else if is_same(front, b"lyd") {
+    } else if is_same(leading, b"lyd") {
         Some(Mode::Lyd)
     } else {
         None
     }
 }
 
-fn minor_like(front: &[u8]) -> Option<Mode>
-    ensures { result ≡ minor_like front.now }
+fn minor_like(leading: &[u8]) -> Option<Mode>
+    ensures { result ≡ minor_like leading.now }
 {
-    if is_same(front, b"min") {
+    if is_same(leading, b"min") {
         Some(Mode::Min)
-    } else if is_same(front, b"aeo") {
+    } else if is_same(leading, b"aeo") {
         Some(Mode::Min)
-    } else if is_same(front, b"dor") {
+    } else if is_same(leading, b"dor") {
         Some(Mode::Dor)
-    } else if is_same(front, b"phr") {
+    } else if is_same(leading, b"phr") {
         Some(Mode::Phr)
-    } else if is_same(front, b"loc") {
+    } else if is_same(leading, b"loc") {
         Some(Mode::Loc)
     } else {
         None

@@ -1,12 +1,12 @@
 ghost use Rattle.std.specs.Prelude.{◌≡◌, ◌≤◌, ◌<◌, ◌==◌, IfSome, IsTrue, length, codes, [], ◌∷◌};
 ghost use Rattle.abc_field.specs.Numbers.{number_of};
 ghost use Rattle.abc_field.specs.Words.{after_prefix};
-ghost use Rattle.abc_field.specs.Meters.{below_of, below_behind, plus, with_terms, sum_of, ratio, plain_ratio};
+ghost use Rattle.abc_field.specs.Meters.{below_of, below_after, plus, with_terms, sum_of, ratio, plain_ratio};
 ghost use Rattle.abc_field.specs.Meters.{wrapped_ratio, ratio_of, meter_at, meter_of, one_over, unit_at, unit_of};
 ghost use Rattle.abc_field.specs.Meters.{default_unit};
 ghost use Rattle.mus_units.specs.Good.{IsGoodMeter, IsGoodUnit, is_halving};
 
-use crate::numbers::{behind_one, cut_at, number_of};
+use crate::numbers::{after_one, cut_at, number_of};
 use crate::words::{after_prefix, is_same, trimmed};
 use mus_units::{Frac, Meter};
 
@@ -58,7 +58,7 @@ fn plain_ratio(text: &[u8]) -> Option<Meter>
     ensures { result ≡ plain_ratio text.now }
 {
     let (sum, rest) = cut_at(b'/', text);
-    ratio(sum_of(sum), below_of(behind_one(rest)))
+    ratio(sum_of(sum), below_of(after_one(rest)))
 }
 
 #[tactic(auto, unfolding(crate::specs::Meters::wrapped_ratio))]
@@ -66,7 +66,7 @@ fn wrapped_ratio(text: &[u8]) -> Option<Meter>
     ensures { result ≡ wrapped_ratio text.now }
 {
     let (sum, rest) = cut_at(b')', text);
-    ratio(sum_of(sum), below_behind(behind_one(rest), b"/"))
+    ratio(sum_of(sum), below_after(after_one(rest), b"/"))
 }
 
 fn ratio(num: Option<u8>, den: Option<u8>) -> Option<Meter>
@@ -118,10 +118,10 @@ fn below_of(text: &[u8]) -> Option<u8>
     }
 }
 
-fn below_behind(text: &[u8], front: &[u8]) -> Option<u8>
-    ensures { result ≡ below_behind (after_prefix front.now text.now) }
+fn below_after(text: &[u8], leading: &[u8]) -> Option<u8>
+    ensures { result ≡ below_after (after_prefix leading.now text.now) }
 {
-    match after_prefix(text, front) {
+    match after_prefix(text, leading) {
         Some(rest) => below_of(rest),
         None => None,
     }
@@ -156,7 +156,7 @@ fn unit_at(text: &[u8]) -> Option<Frac>
     if is_same(text, b"1") {
         Some(Frac { num: 1, den: 1 })
     } else {
-        let den = below_behind(text, b"1/")?;
+        let den = below_after(text, b"1/")?;
         Some(Frac {
             num: 1,
             den: u64::from(den),

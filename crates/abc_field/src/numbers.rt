@@ -4,7 +4,7 @@ ghost use Rattle.std.specs.Prelude.{◌≡◌, ◌≤◌, ◌<◌, IfSome, IsTru
 ghost use Rattle.std.specs.List.{list_all};
 ghost use Rattle.abc_lines.specs.Kinds.{code};
 ghost use Rattle.abc_field.specs.Numbers.{is_digit, begins_zero, is_number, number_of, value_of, place_of_byte, before};
-ghost use Rattle.abc_field.specs.Numbers.{from_first, behind_one};
+ghost use Rattle.abc_field.specs.Numbers.{from_first, after_one};
 
 use mus_units::bytes::is_digit;
 
@@ -96,8 +96,8 @@ fn place_of_byte(byte: u8, text: &[u8]) -> usize
 }
 
 /// Returns the rest after the first byte.
-pub fn behind_one(text: &[u8]) -> &[u8]
-    ensures { result.now ≡ behind_one text.now }
+pub fn after_one(text: &[u8]) -> &[u8]
+    ensures { result.now ≡ after_one text.now }
 {
     match text.split_first() {
         Some((_, rest)) => rest,

@@ -105,11 +105,11 @@ pub fn has_word(text: &[u8], word: &[u8]) -> bool
 
 /// Returns the rest after a prefix, if the text begins with it.
 #[tactic(auto, unfolding(crate::specs::Words::after_prefix))]
-pub fn after_prefix<'a>(text: &'a [u8], front: &[u8]) -> Option<&'a [u8]>
-    ensures { option_copied result ≡ after_prefix front.now text.now }
+pub fn after_prefix<'a>(text: &'a [u8], leading: &[u8]) -> Option<&'a [u8]>
+    ensures { option_copied result ≡ after_prefix leading.now text.now }
 {
-    if text.starts_with(front) {
-        Some(&text[front.len()..])
+    if text.starts_with(leading) {
+        Some(&text[leading.len()..])
     } else {
         None
     }

@@ -14,9 +14,9 @@ use Rattle.abc_lines.specs.Kinds.{is_blank, is_percent_line, is_field, kind_of, 
 use Rattle.abc_field.specs.Directives.{name_len, name_of, rest_of}
 use Rattle.abc_field.specs.Words.{is_empty, trimmed}
 use Rattle.abc_field.specs.WordSpelling.{EndsWord, IsFirstWord}
-use Rattle.abc_field.proofs.BlankLaws.{Stops, prefix-stops, front-stops, front-passes, blanks-passed, cut-reversed}
+use Rattle.abc_field.proofs.BlankLaws.{Stops, prefix-stops, start-stops, start-passes, blanks-passed, cut-reversed}
 use Rattle.abc_field.proofs.BlankLaws.{bare-trimmed, trimmed-between}
-use Rattle.abc_field.proofs.{ReadLaws.byte_case, WordLaws.{BeginsWord, behind-begins}}
+use Rattle.abc_field.proofs.{ReadLaws.byte_case, WordLaws.{BeginsWord, following-begins}}
 use Rattle.abc_fields.specs.Defaults.{rest_if, said_by}
 use Rattle.abc_fields.specs.DirectiveSpelling.{Lead, percents, instruction, lead_spelled, BeginsBare, HasBareEnds}
 use Rattle.abc_fields.specs.DirectiveSpelling.{IsDirective}
@@ -35,18 +35,18 @@ word-stays [] begins = refl
 word-stays (b ∷ s) begins = rw begins refl
 
 -- A trimmed text has no blank at its ends.
-front-kept : (n : ℕ) (s : List ℕ) → BeginsWord s → BeginsBare (take n s)
-front-kept zero s begins = tt
-front-kept (suc n) [] begins = tt
-front-kept (suc n) (b ∷ s) begins = word-bare (b ∷ s) begins
+start-kept : (n : ℕ) (s : List ℕ) → BeginsWord s → BeginsBare (take n s)
+start-kept zero s begins = tt
+start-kept (suc n) [] begins = tt
+start-kept (suc n) (b ∷ s) begins = word-bare (b ∷ s) begins
 
 trimmed-bare : (text : List ℕ) → HasBareEnds (trimmed text)
 unfolding trimmed
 trimmed-bare text =
     let s : List ℕ = after_blanks text in
     let ended = (cut-reversed (suffix_len is_blank s) s (suffix_len-le-length is_blank s)).1 in
-    let begins = word-bare (after_blanks (reverse s)) (behind-begins (reverse s)) in
-    (front-kept (length s - suffix_len is_blank s) s (behind-begins text), subst BeginsBare ended begins)
+    let begins = word-bare (after_blanks (reverse s)) (following-begins (reverse s)) in
+    (start-kept (length s - suffix_len is_blank s) s (following-begins text), subst BeginsBare ended begins)
 
 -- How a line begins, by its kind: the lead of a directive, or a letter and a colon.
 pub record IsLed (line : List ℕ) : Type 0 where
@@ -137,7 +137,7 @@ unfolding name_of rest_of
 kind-takes line name LineKind.Directive some led =
     let text : List ℕ = field_text line in
     let after : List ℕ = drop (name_len text) text in
-    let front : List ℕ = take (prefix_len is_blank led.text) led.text in
+    let start : List ℕ = take (prefix_len is_blank led.text) led.text in
     let found : text ≡ after_blanks led.text = ap field_text led.led ∙ lead-text led.lead led.text in
     cond_both (bytes_eq (take (name_len text) text) name) _ _ (λ o. IfSome o (IsDirective line name))
     (λ e.
@@ -149,12 +149,12 @@ kind-takes line name LineKind.Directive some led =
       after = after;
       led = led.led;
       named = record {
-        blanks = front;
-        blank = front-passes is_blank led.text;
+        blanks = start;
+        blank = start-passes is_blank led.text;
         some = some;
-        whole = subst (λ w. list_all unblank w ≡ true) same (front-passes unblank text);
-        parted = stops-parts after (front-stops unblank text);
-        cut = sym (take-append-drop (prefix_len is_blank led.text) led.text) ∙ ap (λ t. front ++ t) (sym found ∙ cut);
+        whole = subst (λ w. list_all unblank w ≡ true) same (start-passes unblank text);
+        parted = stops-parts after (start-stops unblank text);
+        cut = sym (take-append-drop (prefix_len is_blank led.text) led.text) ∙ ap (λ t. start ++ t) (sym found ∙ cut);
       };
       between = trimmed-between after;
       bare = trimmed-bare after;

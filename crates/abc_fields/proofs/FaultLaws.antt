@@ -14,7 +14,7 @@ use Rattle.abc_field.specs.declared.field.Field.{Field}
 use Rattle.abc_field.specs.Fields.{field_of}
 use Rattle.abc_field.proofs.FieldForms.{line-says, line-read, line-bad, line-refused}
 use Rattle.abc_field.proofs.ReadLaws.{option_case, some_holds}
-use Rattle.abc_fields.specs.HeaderFaults.{IsFaultBehind, IsFaultBy, IsFaultOfHeader, IsClearBy, IsClearHeader}
+use Rattle.abc_fields.specs.HeaderFaults.{IsFaultAfter, IsFaultBy, IsFaultOfHeader, IsClearBy, IsClearHeader}
 use Rattle.abc_fields.specs.HeaderFaults.{IsHeaderRefusal}
 use Rattle.abc_fields.specs.Headers.{key_place, put_field, fields_of, field_fault, ids_with, first_fault, head_lines}
 use Rattle.abc_fields.specs.Headers.{fault_by}
@@ -39,15 +39,15 @@ ids-push ids (first ∷ lines) line =
 abbrev fault_of_line : List Line → Line → Option Fault
 fault_of_line before line = field_fault (ids_of (fields_of before)) line (field_of line.text)
 
-fault-is : (before : List Line) (line : Line) → IfSome (fault_of_line before line) (IsFaultBehind before line)
+fault-is : (before : List Line) (line : Line) → IfSome (fault_of_line before line) (IsFaultAfter before line)
 fault-is before line = by_reading (field_of line.text) refl
   where
     by_reading : (read : Result Field FaultKind) → field_of line.text ≡ read
-        → IfSome (field_fault (ids_of (fields_of before)) line read) (IsFaultBehind before line)
+        → IfSome (field_fault (ids_of (fields_of before)) line read) (IsFaultAfter before line)
     by_reading (Err kind) e = inl (record { kind = kind; bad = line-bad line.text kind e; is = refl })
     by_reading (Ok f) e =
         cond_both (nat_lt 16 (length (ids_after (ids_of (fields_of before)) f))) _ _
-        (λ o. IfSome o (IsFaultBehind before line))
+        (λ o. IfSome o (IsFaultAfter before line))
         (λ many. inr (record {
           field = f;
           says = line-says line.text f e;
@@ -59,7 +59,7 @@ fault-is before line = by_reading (field_of line.text) refl
         (λ few. tt)
 
 fault-reaches : (before : List Line) (line : Line) (fault : Fault)
-    → IsFaultBehind before line fault → fault_of_line before line ≡ Some fault
+    → IsFaultAfter before line fault → fault_of_line before line ≡ Some fault
 fault-reaches before line fault (inl bad) = rw (line-refused line.text bad.kind bad.bad) (ap Some bad.is)
 fault-reaches before line fault (inr voice) =
     let more =
@@ -68,39 +68,39 @@ fault-reaches before line fault (inr voice) =
     rw (line-read line.text voice.field voice.says, many) (ap Some voice.is)
 
 -- The same after lines that were already passed.
-abbrev ClearBehind : List Line → List Line → Type 0
-ClearBehind done lines =
+abbrev ClearAfter : List Line → List Line → Type 0
+ClearAfter done lines =
     (before : List Line) (line : Line) (after : List Line) (fault : Fault) → lines ≡ before ++ line ∷ after
-    → IsFaultBehind (done ++ before) line fault → ⊥
+    → IsFaultAfter (done ++ before) line fault → ⊥
 
-record FirstBehind (done lines : List Line) (fault : Fault) : Type 0 where
+record FirstAfter (done lines : List Line) (fault : Fault) : Type 0 where
   before : List Line
   line : Line
   after : List Line
   cut : lines ≡ before ++ line ∷ after
-  is : IsFaultBehind (done ++ before) line fault
-  clear : ClearBehind done before
+  is : IsFaultAfter (done ++ before) line fault
+  clear : ClearAfter done before
 
-nothing_clear : (done : List Line) → ClearBehind done []
+nothing_clear : (done : List Line) → ClearAfter done []
 nothing_clear done [] line after fault e is = cc
 nothing_clear done (first ∷ before) line after fault e is = cc
 
 module _ (done : List Line) (line : Line) (none : fault_of_line done line ≡ None) where
-  one_clear : (lines : List Line) → ClearBehind (done ++ line ∷ []) lines → ClearBehind done (line ∷ lines)
+  one_clear : (lines : List Line) → ClearAfter (done ++ line ∷ []) lines → ClearAfter done (line ∷ lines)
   one_clear lines clear [] other after fault e is =
       let same : other ≡ line = cc in
       let here =
-      subst (λ l. IsFaultBehind done l fault) same (subst (λ ls. IsFaultBehind ls other fault) (append-nil done) is) in
+      subst (λ l. IsFaultAfter done l fault) same (subst (λ ls. IsFaultAfter ls other fault) (append-nil done) is) in
       none-some fault (sym none ∙ fault-reaches done line fault here)
   one_clear lines clear (first ∷ before) other after fault e is =
       let same : first ≡ line = cc in
       let rest : lines ≡ before ++ other ∷ after = cc in
       let passed = ap (λ l. done ++ l ∷ before) same ∙ sym (append_assoc done (line ∷ []) before) in
-      clear before other after fault rest (subst (λ ls. IsFaultBehind ls other fault) passed is)
+      clear before other after fault rest (subst (λ ls. IsFaultAfter ls other fault) passed is)
 
   later : (lines : List Line) (o : Option Fault)
-      → MatchOption o (ClearBehind (done ++ line ∷ []) lines) (FirstBehind (done ++ line ∷ []) lines)
-      → MatchOption o (ClearBehind done (line ∷ lines)) (FirstBehind done (line ∷ lines))
+      → MatchOption o (ClearAfter (done ++ line ∷ []) lines) (FirstAfter (done ++ line ∷ []) lines)
+      → MatchOption o (ClearAfter done (line ∷ lines)) (FirstAfter done (line ∷ lines))
   later lines None clear = one_clear lines clear
   later lines (Some fault) first =
       record {
@@ -108,19 +108,19 @@ module _ (done : List Line) (line : Line) (none : fault_of_line done line ≡ No
         line = first.line;
         after = first.after;
         cut = ap (λ ls. line ∷ ls) first.cut;
-        is = subst (λ ls. IsFaultBehind ls first.line fault) (append_assoc done (line ∷ []) first.before) first.is;
+        is = subst (λ ls. IsFaultAfter ls first.line fault) (append_assoc done (line ∷ []) first.before) first.is;
         clear = one_clear first.before first.clear;
       }
 
 found : (lines done : List Line)
-    → MatchOption (first_fault (ids_of (fields_of done)) lines) (ClearBehind done lines) (FirstBehind done lines)
+    → MatchOption (first_fault (ids_of (fields_of done)) lines) (ClearAfter done lines) (FirstAfter done lines)
 found [] done = nothing_clear done
 found (line ∷ lines) done =
     let passed : List Line = done ++ line ∷ [] in
     let ids : List (List ℕ) = ids_with (ids_of (fields_of done)) (field_of line.text) in
     option_case (λ o.
-    MatchOption (option_or o (first_fault ids lines)) (ClearBehind done (line ∷ lines))
-    (FirstBehind done (line ∷ lines)))
+    MatchOption (option_or o (first_fault ids lines)) (ClearAfter done (line ∷ lines))
+    (FirstAfter done (line ∷ lines)))
     (fault_of_line done line)
     (λ fault e. record {
       before = [];
@@ -128,8 +128,8 @@ found (line ∷ lines) done =
       after = lines;
       cut = refl;
       is =
-          subst (λ ls. IsFaultBehind ls line fault) (sym (append-nil done))
-          (some_holds (IsFaultBehind done line) e (fault-is done line));
+          subst (λ ls. IsFaultAfter ls line fault) (sym (append-nil done))
+          (some_holds (IsFaultAfter done line) e (fault-is done line));
       clear = nothing_clear done;
     })
     (λ none. later done line none lines (first_fault ids lines) (rw (← ids-push [] done line) (found lines passed)))
@@ -141,7 +141,7 @@ by-place tune None = refl
 by-place tune (Some place) = whole (first_fault [] (head_lines tune place)) (found (head_lines tune place) [])
   where
     whole : (o : Option Fault)
-        → MatchOption o (ClearBehind [] (head_lines tune place)) (FirstBehind [] (head_lines tune place))
+        → MatchOption o (ClearAfter [] (head_lines tune place)) (FirstAfter [] (head_lines tune place))
         → MatchOption o (IsClearBy tune (Some place)) (IsFaultBy tune (Some place))
     whole None clear = clear
     whole (Some fault) first =

@@ -16,7 +16,7 @@ use Rattle.abc_field.specs.Words.{is_empty, trimmed}
 use Rattle.abc_field.proofs.FieldForms.{breaks-says, breaks-read, spread-says, spread-read}
 use Rattle.abc_field.proofs.MeterForms.{meter-says, meter-read, unit-says, unit-read}
 use Rattle.abc_field.proofs.ReadLaws.{option_case, some_from, some_holds, some_then, nothing, byte_case}
-use Rattle.abc_field.proofs.WordLaws.{behind-begins}
+use Rattle.abc_field.proofs.WordLaws.{following-begins}
 use Rattle.abc_fields.specs.FileHeader.{StatesMeter, StatesUnit, StatesBreaks, StatesSpread, StatesStaves, StatesLength}
 use Rattle.abc_fields.specs.FileHeader.{StatesScale, AreSilent}
 use Rattle.abc_fields.specs.FileHeader.{IsLastOr, IsLastIfAny, AreDefaultsBy, AreStavesBy, AreStavesOf, AreStavesUpTo}
@@ -77,15 +77,15 @@ module _ {X : Type 0} (States : Line → X → Type 0) (f : Line → Option X) (
       rw (silent-unread lines silent.1)
       (nothing (f line) (λ x e. some_holds (States line) e (reads.takes line)) silent.0)
 
-  last-behind : (before after : List Line) (line : Line) (x : X)
+  last-following : (before after : List Line) (line : Line) (x : X)
       → last_of f (line ∷ after) ≡ Some x → last_of f (before ++ line ∷ after) ≡ Some x
-  last-behind [] after line x h = h
-  last-behind (first ∷ before) after line x h = rw (last-behind before after line x h) refl
+  last-following [] after line x h = h
+  last-following (first ∷ before) after line x h = rw (last-following before after line x h) refl
 
   last-one : (lines : List Line) (o : Option X) → IsLastIfAny States lines o → o ≡ last_of f lines
   last-one lines None silent = sym (silent-unread lines silent)
   last-one lines (Some x) last =
-      sym (ap (last_of f) last.cut ∙ last-behind last.before last.after last.line x
+      sym (ap (last_of f) last.cut ∙ last-following last.before last.after last.line x
       (rw (silent-unread last.after last.silent) (reads.reaches last.line x last.states)))
 
   last-or : (default : X) (lines : List Line) → IsLastOr States default lines (unwrap_or (last_of f lines) default)
@@ -176,7 +176,7 @@ staves-reads =
 -- Fields.
 trimmed-once : (text : List ℕ) → trimmed (after_blanks text) ≡ trimmed text
 unfolding trimmed
-trimmed-once text = rw (word-stays (after_blanks text) (behind-begins text)) refl
+trimmed-once text = rw (word-stays (after_blanks text) (following-begins text)) refl
 
 -- a field's text follows its letter, a colon and any blanks
 record HasText (letter : ℕ) (line text : List ℕ) : Type 0 where

@@ -24,14 +24,14 @@ pub record HasVoiceTooMany (before : List Line) (line : Line) (fault : Fault) : 
   pub is : line_fault FaultKind.TooManyVoices line ≡ fault
 
 -- the fault of a line that follows these lines
-abbrev pub IsFaultBehind : List Line → Line → Fault → Type 0
-IsFaultBehind before line fault = HasBadText line fault ⊎ HasVoiceTooMany before line fault
+abbrev pub IsFaultAfter : List Line → Line → Fault → Type 0
+IsFaultAfter before line fault = HasBadText line fault ⊎ HasVoiceTooMany before line fault
 
 -- no line is at fault after those before it
 abbrev pub AreClear : List Line → Type 0
 AreClear lines =
     (before : List Line) (line : Line) (after : List Line) (fault : Fault)
-    → lines ≡ before ++ line ∷ after → IsFaultBehind before line fault → ⊥
+    → lines ≡ before ++ line ∷ after → IsFaultAfter before line fault → ⊥
 
 -- the first fault: its line is at fault after those before it, and none of these is
 pub record IsFirstFault (lines : List Line) (fault : Fault) : Type 0 where
@@ -39,7 +39,7 @@ pub record IsFirstFault (lines : List Line) (fault : Fault) : Type 0 where
   pub line : Line
   pub after : List Line
   pub cut : lines ≡ before ++ line ∷ after
-  pub is : IsFaultBehind before line fault
+  pub is : IsFaultAfter before line fault
   pub clear : AreClear before
 
 -- the fault of a tune's header: without `K:` at the tune's first line, or else the first fault of the lines up to the

@@ -20,8 +20,8 @@ with_decimals whole _ rest = None
 -- a point is followed by one or two digits
 abbrev pub decimals : ℕ → List ℕ → Option (List ℕ) → Option (ℕ × List ℕ)
 decimals whole rest None = Some (whole * 100, rest)
-decimals whole rest (Some behind_point) =
-    with_decimals whole (take (digit_len behind_point) behind_point) (drop (digit_len behind_point) behind_point)
+decimals whole rest (Some after_point) =
+    with_decimals whole (take (digit_len after_point) after_point) (drop (digit_len after_point) after_point)
 
 -- no number that counts is above 100000
 abbrev pub whole_of : List ℕ → Option ℕ

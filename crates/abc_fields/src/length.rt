@@ -109,8 +109,8 @@ fn decimals(whole: u64, rest: &[u8]) -> Option<(u64, &[u8])>
     ensures small { IfSome result (λ w. w.0 ≤ 20000000) }
 {
     match after_prefix(rest, b".") {
-        Some(behind_point) => {
-            let (digits, left) = behind_point.split_at(digit_len(behind_point));
+        Some(after_point) => {
+            let (digits, left) = after_point.split_at(digit_len(after_point));
             with_decimals(whole, digits, left)
         }
         None => Some((whole * 100, rest)),

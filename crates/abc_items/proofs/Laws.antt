@@ -65,10 +65,10 @@ pub stops_before : (b : Body) (g h : List ItemOrFault) (e : TuneError) → Stops
 stops_before b g h TuneError.Memory s = s
 stops_before b g h (TuneError.Fault fault) s = stays b.ids g h fault s
 
-pub stops_behind : (a b : Body) (g h : List ItemOrFault) (e : TuneError)
+pub stops_after : (a b : Body) (g h : List ItemOrFault) (e : TuneError)
     → Reads a g b → Stops b h e → Stops a (g ++ h) e
-stops_behind a b g h TuneError.Memory r s = s
-stops_behind a b g h (TuneError.Fault fault) r s =
+stops_after a b g h TuneError.Memory r s = s
+stops_after a b g h (TuneError.Fault fault) r s =
     ap (λ x. first_item_fault (judged_items a.ids (g ++ x))) (sym (append-nil h)) ∙ first_more a b g h r ∙ s where
       first_more : (a b : Body) (g h : List ItemOrFault)
           → Reads a g b
@@ -142,7 +142,7 @@ lines_stop breaks lines i line a b (TuneError.Fault fault) inside here so_far on
         gives_so =
             subst (λ ls. BodyGives breaks ls (so_far.given ++ one.given)) taken
             (line_more breaks (take i lines) line so_far.given one.given so_far.gives_so one.gives_so);
-        stops = stops_behind a b so_far.given one.given (TuneError.Fault fault) so_far.reads one.stops;
+        stops = stops_after a b so_far.given one.given (TuneError.Fault fault) so_far.reads one.stops;
       },
     )
 
@@ -161,10 +161,10 @@ size_cut lines i line inside here =
     ∙ added (get_or lines i line) line (drop (suc i) lines) (sym here)
     ∙ ap (λ n. length line.text + size_of (drop n lines)) one
 
-pub size_behind : (lines : List Line) (i : ℕ) (line : Line)
+pub size_after : (lines : List Line) (i : ℕ) (line : Line)
     → i < length lines → line ≡ get_or lines i line → size_of (drop i lines) ≤ 2 ^ 30
     → (length line.text ≤ 2 ^ 30) × (size_of (drop (i + 1) lines) ≤ 2 ^ 30)
-size_behind lines i line inside here small =
+size_after lines i line inside here small =
     let whole = size_cut lines i line inside here in (omega (arith, whole, small), omega (arith, whole, small))
 
 -- the whole body

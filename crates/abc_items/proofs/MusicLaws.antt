@@ -10,11 +10,11 @@ use Rattle.abc_music.specs.declared.token.TokenCursor.{TokenCursor}
 use Rattle.abc_music.specs.declared.token.LineRest.{LineRest}
 use Rattle.abc_music.specs.Tokens.{IsStart, GivesTokensFrom, LeadsTo, PartOf}
 use Rattle.abc_music.proofs.Line.{ReadTo, read_none, read_more}
-use Rattle.abc_music.proofs.Fronts.{behind_part}
+use Rattle.abc_music.proofs.Prefixes.{after_part}
 use Rattle.abc_items.specs.declared.body.Body.{Body}
 use Rattle.abc_items.specs.Body.{ItemOrFault, placed_given, item_of_line_end, MusicGives}
 use Rattle.abc_items.specs.Reading.{Reads, Stops, ReadsSome, StopsBy}
-use Rattle.abc_items.proofs.Laws.{reads_nothing, reads_both, stops_before, stops_behind, stops_by}
+use Rattle.abc_items.proofs.Laws.{reads_nothing, reads_both, stops_before, stops_after, stops_by}
 
 abbrev tokens_give : Breaks → Line → List Placed → List ItemOrFault
 tokens_give breaks line tokens = flat_map (placed_given breaks line) tokens
@@ -65,7 +65,7 @@ module _ (breaks : Breaks) (line : Line) (before : Body) (place : TokenCursor) (
       → StopsBy (MusicGives breaks line) before e
   stops_so tokens fault e from stops =
       stops_by (MusicGives breaks line) before (whole tokens fault) e (gives_whole tokens fault from)
-      (stops_behind before body (tokens_give breaks line stage.so_far)
+      (stops_after before body (tokens_give breaks line stage.so_far)
       (tokens_give breaks line tokens ++ item_of_line_end breaks line fault) e stage.reads stops)
 
   pub part_ends : (tokens : List Placed) (fault : Option Fault) (after end : Body)
@@ -87,13 +87,13 @@ module _ (breaks : Breaks) (line : Line) (before : Body) (place : TokenCursor) (
       → StopsBy (MusicGives breaks line) before e
   end_stops tokens fault after e from reads stops =
       stops_so tokens fault e from
-      (stops_behind body after (tokens_give breaks line tokens) (item_of_line_end breaks line fault) e reads stops)
+      (stops_after body after (tokens_give breaks line tokens) (item_of_line_end breaks line fault) e reads stops)
 
-  pub part_stops : (tokens : List Placed) (behind : LineRest) (e : TuneError)
-      → PartOf breaks.bang line place tokens behind → Stops body (tokens_give breaks line tokens) e
+  pub part_stops : (tokens : List Placed) (following : LineRest) (e : TuneError)
+      → PartOf breaks.bang line place tokens following → Stops body (tokens_give breaks line tokens) e
       → StopsBy (MusicGives breaks line) before e
-  part_stops tokens behind e part stops =
-      let all = behind_part breaks.bang line place tokens behind part in
+  part_stops tokens following e part stops =
+      let all = after_part breaks.bang line place tokens following part in
       let last = item_of_line_end breaks line all.1 in
       stops_so (tokens ++ all.0) all.1 e all.2
       (subst (λ g. Stops body g e)

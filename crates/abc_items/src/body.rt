@@ -128,7 +128,7 @@ fn read_music_line(
             Ok(()) => {}
             Err(e) => return Err(e),
         }
-        match part.behind {
+        match part.following {
             LineRest::More(next) => place = next,
             LineRest::End(fault) => return put_end(alloc, breaks, line, fault, body),
         }

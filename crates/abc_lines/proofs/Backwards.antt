@@ -9,7 +9,7 @@ use Rattle.abc_lines.specs.declared.book.TuneText.{TuneText}
 use Rattle.abc_lines.specs.declared.book.Book.{Book}
 use Rattle.abc_lines.specs.declared.reading.LineContent.{LineContent}
 use Rattle.abc_lines.specs.Books.{begins_tune, is_empty_line, is_end_of_part, is_in_header, tune_of, is_line_number}
-use Rattle.abc_lines.specs.Books.{belongs_to, line_at, listed_lines, tune_at, tunes_behind, book_of_lines}
+use Rattle.abc_lines.specs.Books.{belongs_to, line_at, listed_lines, tune_at, tunes_after, book_of_lines}
 use Rattle.abc_lines.specs.Forward.{part_from, tune_from, tunes_from, book_from}
 
 pub part-nil : (number : ℕ) → part_from number [] ≡ []
@@ -152,13 +152,13 @@ begins all before more line ordinal is comes =
     (tune-listed (line ∷ before) more (suc (length before)) (omega arith) here)))
 
 tunes-listed : (all before more : List LineContent) (ordinal : ℕ)
-    → Comes all before more → tunes_behind all ordinal before more ≡ tunes_from ordinal (suc (length before)) more
+    → Comes all before more → tunes_after all ordinal before more ≡ tunes_from ordinal (suc (length before)) more
 tunes-listed all before [] ordinal comes = sym (tunes-nil _ _)
 tunes-listed all before (line ∷ more) ordinal comes =
     rw tunes-cons
     (cond_both (begins_tune line)
-    (tune_at all ordinal (suc (length before)) ∷ tunes_behind all (suc ordinal) (line ∷ before) more)
-    (tunes_behind all ordinal (line ∷ before) more)
+    (tune_at all ordinal (suc (length before)) ∷ tunes_after all (suc ordinal) (line ∷ before) more)
+    (tunes_after all ordinal (line ∷ before) more)
     (λ tunes.
     tunes
     ≡ cond (begins_tune line)

@@ -55,11 +55,11 @@ latin-le s = cond_both (is_utf8 s) (map narrow (chars s)) s (λ t. length t ≤ 
 comment-le : (s : List ℕ) → length (without_comment s) ≤ length s
 unfolding without_comment
 comment-le s =
-    let front = take (comment_len false s) s in
+    let prefix = take (comment_len false s) s in
     omega (
       arith,
       length-take-le (comment_len false s) s,
-      length-take-le (length front - suffix_len is_blank front) front,
+      length-take-le (length prefix - suffix_len is_blank prefix) prefix,
     )
 
 written-le : (s : List ℕ) → text_len (written s) ≤ length s

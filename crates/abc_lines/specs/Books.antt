@@ -94,15 +94,15 @@ abbrev pub tune_at : List LineContent → ℕ → ℕ → TuneText
 tune_at all ordinal number = record { ordinal = ordinal; lines = listed_lines (belongs_to number) [] all }
 
 -- the tunes that begin after the lines `before`, each with its lines among all lines
-abbrev pub tunes_behind : List LineContent → ℕ → List LineContent → List LineContent → List TuneText
-tunes_behind all ordinal before [] = []
-tunes_behind all ordinal before (line ∷ more) =
-    if begins_tune line then tune_at all ordinal (suc (length before)) ∷ tunes_behind all (suc ordinal) (line ∷ before)
+abbrev pub tunes_after : List LineContent → ℕ → List LineContent → List LineContent → List TuneText
+tunes_after all ordinal before [] = []
+tunes_after all ordinal before (line ∷ more) =
+    if begins_tune line then tune_at all ordinal (suc (length before)) ∷ tunes_after all (suc ordinal) (line ∷ before)
     more
-    else tunes_behind all ordinal (line ∷ before) more
+    else tunes_after all ordinal (line ∷ before) more
 
 abbrev pub book_of_lines : List LineContent → Book
-book_of_lines all = record { header = listed_lines is_in_header [] all; tunes = tunes_behind all 1 [] all }
+book_of_lines all = record { header = listed_lines is_in_header [] all; tunes = tunes_after all 1 [] all }
 
 unfoldable pub book_of : List ℕ → Book
 book_of bytes = book_of_lines (readings (without_mark bytes))

@@ -7,7 +7,7 @@ ghost use Rattle.abc_lines.specs.Good.{IsGoodBook};
 ghost use Rattle.abc_lines.specs.Lines.{readings};
 
 use crate::book::{Book, Line, TuneText};
-use crate::kind::{behind_two, is_field};
+use crate::kind::{after_two, is_field};
 use crate::reading::{LineContent, first_line, read_line, without_mark};
 use mus_units::bytes::after_blanks;
 use mus_units::{Memory, Row, Text};
@@ -195,7 +195,7 @@ fn add_joined(out: &mut Text, reading: LineContent) -> Result<(), Memory>
         LineContent::Empty | LineContent::Comment => Ok(()),
         LineContent::Written(text) => {
             out.push(b' ')?;
-            out.append(after_blanks(behind_two(text.as_slice())))
+            out.append(after_blanks(after_two(text.as_slice())))
         }
     }
 }

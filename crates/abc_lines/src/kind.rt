@@ -33,7 +33,7 @@ pub fn kind_of(line: &Line) -> LineKind
 pub fn field_text(line: &Line) -> &[u8]
     ensures { result.now ≡ field_text line.now.text }
 {
-    after_blanks(behind_two(line.text.as_slice()))
+    after_blanks(after_two(line.text.as_slice()))
 }
 
 fn field_kind(letter: u8) -> LineKind
@@ -90,7 +90,7 @@ fn begins_bar(text: &[u8]) -> bool
 }
 
 /// Returns the rest after the first two bytes.
-pub(crate) fn behind_two(text: &[u8]) -> &[u8]
+pub(crate) fn after_two(text: &[u8]) -> &[u8]
     ensures { result.now ≡ drop 2 text.now }
 {
     match text.split_at_checked(2) {

@@ -196,12 +196,12 @@ good_put : (t : Option Token) (at : ℕ) (ts : List Placed)
 good_put None at ts good more = more
 good_put (Some t) at ts good more = (good, more)
 
-pub good_front : (bang : Bool) (n : ℕ) (before : PieceBefore) (at : ℕ) (s : List ℕ) (ts : List Placed)
+pub good_prefix : (bang : Bool) (n : ℕ) (before : PieceBefore) (at : ℕ) (s : List ℕ) (ts : List Placed)
     (end : Option Flaw)
     → GivesTokens bang n before at s ts end → AreGoodTokens ts
-good_front bang n _ _ _ _ _ (clear before at) = tt
-good_front bang n _ _ _ _ _ (breaks before at byte s flaw h is) = tt
-good_front bang n _ _ _ _ _ (leads before at s f rest ts all end l more is) =
+good_prefix bang n _ _ _ _ _ (clear before at) = tt
+good_prefix bang n _ _ _ _ _ (breaks before at byte s flaw h is) = tt
+good_prefix bang n _ _ _ _ _ (leads before at s f rest ts all end l more is) =
     subst AreGoodTokens (sym is)
     (good_put (token_meant f) (column n (length s)) ts (good_piece bang f l.stands.good)
-    (good_front bang n (after f) (length s) rest ts end more))
+    (good_prefix bang n (after f) (length s) rest ts end more))

@@ -1,3 +1,3 @@
-pub mod Fronts
+pub mod Prefixes
 pub mod GoodLaws
 pub mod Line

@@ -82,9 +82,9 @@ step bang line place at next so_far new here t so h where_is is_column is =
     let l = longest bang at.before at.rest.now f.form next.rest.now f.is in
     λ ts fault more.
     let all : List Placed = with_token t here ts in
-    let front = subst (λ a. GivesTokens bang (length line.text) (after f.form) a next.rest.now ts more.0) where_is
+    let prefix = subst (λ a. GivesTokens bang (length line.text) (after f.form) a next.rest.now ts more.0) where_is
     (subst (λ b. GivesTokens bang (length line.text) b next.at next.rest.now ts more.0) f.tells more.1) in
-    let one = leads at.before at.at at.rest.now f.form next.rest.now ts all more.0 l front
+    let one = leads at.before at.at at.rest.now f.form next.rest.now ts all more.0 l prefix
     (ap (λ o. with_token o here ts) f.token
     ∙ ap (λ c. with_token (token_meant f.form) c ts) (is_column ∙ ap (column (length line.text)) where_is)) in
     subst (λ us. GivesTokensFrom bang line place us fault)
@@ -97,10 +97,10 @@ from_start : (bang : Bool) (line : Line) (ts : List Placed) (end : Option Flaw) 
     (rest : List ℕ) → rest ≡ line.text → before ≡ PieceBefore.Other → at ≡ 0
     → GivesTokens bang (length line.text) before at rest ts end
     → GivesTokensAt bang line.text ts end
-from_start bang line ts end before at rest r b a front =
+from_start bang line ts end before at rest r b a prefix =
     subst (λ x. GivesTokens bang (length line.text) PieceBefore.Other 0 x ts end) r
     (subst (λ x. GivesTokens bang (length line.text) PieceBefore.Other x rest ts end) a
-    (subst (λ x. GivesTokens bang (length line.text) x at rest ts end) b front))
+    (subst (λ x. GivesTokens bang (length line.text) x at rest ts end) b prefix))
 
 -- tokens lead from the start of a line to a position
 abbrev pub ReadTo : Bool → Line → List Placed → TokenCursor → Type 0
@@ -154,7 +154,7 @@ nil_list bang n _ _ _ e (goes before s f rest ts all l more is) =
     absurd (nothing_read bang before f rest (subst (λ t. longest_piece bang before t f rest) e l))
 
 -- the rest of a list of tokens, after the piece just read
-pub record Behind (bang : Bool) (n : ℕ) (before : PieceBefore) (s : List ℕ) (us : List Placed) (f : Form)
+pub record Following (bang : Bool) (n : ℕ) (before : PieceBefore) (s : List ℕ) (us : List Placed) (f : Form)
     (rest : List ℕ) : Type 0 where
   pub ts : List Placed
   pub tokens : Tokens bang n (after f) rest ts
@@ -168,11 +168,11 @@ same_piece f g x y e =
     let is : one_of_both f x ≡ one_of_both g y = cc in
     (ap (λ (z : Form × List ℕ). z.0) is, ap (λ (z : Form × List ℕ). z.1) is)
 
-behind_it : (bang : Bool) (n : ℕ) (before : PieceBefore) (s : List ℕ) (us : List Placed) (f : Form) (rest : List ℕ)
-    → piece_at bang before s ≡ read f rest → Tokens bang n before s us → Behind bang n before s us f rest
-behind_it bang n _ _ _ f rest e (ends before) =
+after_it : (bang : Bool) (n : ℕ) (before : PieceBefore) (s : List ℕ) (us : List Placed) (f : Form) (rest : List ℕ)
+    → piece_at bang before s ≡ read f rest → Tokens bang n before s us → Following bang n before s us f rest
+after_it bang n _ _ _ f rest e (ends before) =
     absurd (let h : None ≡ read f rest = sym (at_nil (piece_reader bang before)) ∙ e in cc)
-behind_it bang n _ _ _ f rest e (goes before s g others ts all l more is) =
+after_it bang n _ _ _ f rest e (goes before s g others ts all l more is) =
     let same = same_piece g f others rest (sym (is_read bang before s g others l) ∙ e) in
     record {
       ts = ts;
@@ -185,7 +185,7 @@ pub one_list : (bang : Bool) (n : ℕ) (before : PieceBefore) (s : List ℕ) (ts
     → Tokens bang n before s ts → Tokens bang n before s us → ts ≡ us
 one_list bang n _ _ _ us (ends before) b = sym (nil_list bang n before [] us refl b)
 one_list bang n _ _ _ us (goes before s f rest ts all l more is) b =
-    let r = behind_it bang n before s us f rest (is_read bang before s f rest l) b in
+    let r = after_it bang n before s us f rest (is_read bang before s f rest l) b in
     is
     ∙ ap (λ x. with_token (token_meant f) (column n (length s)) x)
     (one_list bang n (after f) rest ts r.ts more r.tokens)
@@ -201,7 +201,7 @@ pub no_list : (bang : Bool) (n : ℕ) (before : PieceBefore) (at : ℕ) (s : Lis
 no_list bang n _ _ _ _ ts (stuck before at byte s flaw h is) b =
     stuck_tokens bang n before byte s (byte ∷ s) ts refl h b
 no_list bang n _ _ _ _ ts (later before at s f rest flaw l more) b =
-    let r = behind_it bang n before s ts f rest (is_read bang before s f rest l) b in
+    let r = after_it bang n before s ts f rest (is_read bang before s f rest l) b in
     no_list bang n (after f) (length s) rest flaw r.ts more r.tokens
 
 pub stuck_at : (bang : Bool) (line : Line) (place at : TokenCursor) (so_far : List Placed) (byte : ℕ) (t : List ℕ)
@@ -210,30 +210,31 @@ pub stuck_at : (bang : Bool) (line : Line) (place at : TokenCursor) (so_far : Li
     → None ≡ meaning (piece_at bang at.before at.rest.now) → IsLineFlaw bang at.before at.at byte t flaw
     → fault ≡ fault_at line flaw
     → GivesTokensFrom bang line place so_far (Some fault)
-stuck_at bang line place at so_far byte t flaw fault so cut none is told =
+stuck_at bang line place at so_far byte t flaw fault so cut none is reported =
     let nothing =
     none_of (piece_reader bang at.before) (byte ∷ t) (none_at bang at.before at.rest.now t byte cut none) in
     let one : GivesTokens bang (length line.text) at.before at.at at.rest.now [] (Some flaw) =
     rw cut (breaks at.before at.at byte t flaw nothing is) in
     subst (λ us. GivesTokensFrom bang line place us (Some fault)) (append-nil so_far)
-    (so [] (Some fault) (Some flaw, one, ap Some told))
+    (so [] (Some fault) (Some flaw, one, ap Some reported))
 
 -- a line without a fault has the tokens of its prefix, and a line with a fault has that fault
-front_tokens : (bang : Bool) (n : ℕ) (before : PieceBefore) (at : ℕ) (s : List ℕ) (ts : List Placed) (end : Option Flaw)
+prefix_tokens : (bang : Bool) (n : ℕ) (before : PieceBefore) (at : ℕ) (s : List ℕ) (ts : List Placed)
+    (end : Option Flaw)
     → GivesTokens bang n before at s ts end → end ≡ None → Tokens bang n before s ts
-front_tokens bang n _ _ _ _ _ (clear before at) e = ends before
-front_tokens bang n _ _ _ _ _ (breaks before at byte s flaw h is) e = absurd cc
-front_tokens bang n _ _ _ _ _ (leads before at s f rest ts all end l more is) e =
-    goes before s f rest ts all l (front_tokens bang n (after f) (length s) rest ts end more e) is
+prefix_tokens bang n _ _ _ _ _ (clear before at) e = ends before
+prefix_tokens bang n _ _ _ _ _ (breaks before at byte s flaw h is) e = absurd cc
+prefix_tokens bang n _ _ _ _ _ (leads before at s f rest ts all end l more is) e =
+    goes before s f rest ts all l (prefix_tokens bang n (after f) (length s) rest ts end more e) is
 
-front_flaw : (bang : Bool) (n : ℕ) (before : PieceBefore) (at : ℕ) (s : List ℕ) (ts : List Placed) (end : Option Flaw)
+prefix_flaw : (bang : Bool) (n : ℕ) (before : PieceBefore) (at : ℕ) (s : List ℕ) (ts : List Placed) (end : Option Flaw)
     (flaw : Flaw)
     → GivesTokens bang n before at s ts end → end ≡ Some flaw → Faulty bang before at s flaw
-front_flaw bang n _ _ _ _ _ flaw (clear before at) e = absurd cc
-front_flaw bang n _ _ _ _ _ flaw (breaks before at byte s one h is) e =
+prefix_flaw bang n _ _ _ _ _ flaw (clear before at) e = absurd cc
+prefix_flaw bang n _ _ _ _ _ flaw (breaks before at byte s one h is) e =
     let same : one ≡ flaw = cc in subst (λ x. Faulty bang before at (byte ∷ s) x) same (stuck before at byte s one h is)
-front_flaw bang n _ _ _ _ _ flaw (leads before at s f rest ts all end l more is) e =
-    later before at s f rest flaw l (front_flaw bang n (after f) (length s) rest ts end flaw more e)
+prefix_flaw bang n _ _ _ _ _ flaw (leads before at s f rest ts all end l more is) e =
+    later before at s f rest flaw l (prefix_flaw bang n (after f) (length s) rest ts end flaw more e)
 
 no_end : (line : Line) (end : Option Flaw) → None ≡ option_map (fault_at line) end → end ≡ None
 no_end line None e = refl
@@ -241,22 +242,22 @@ no_end line (Some flaw) e = absurd cc
 
 pub tokens_of : (bang : Bool) (line : Line) (ts : List Placed) (fault : Option Fault)
     → GivesTokensOf bang line ts fault → fault ≡ None → TokensOf bang line.text ts
-tokens_of bang line ts fault front none =
-    front_tokens bang (length line.text) PieceBefore.Other 0 line.text ts front.0 front.1
-    (no_end line front.0 (sym none ∙ front.2))
+tokens_of bang line ts fault prefix none =
+    prefix_tokens bang (length line.text) PieceBefore.Other 0 line.text ts prefix.0 prefix.1
+    (no_end line prefix.0 (sym none ∙ prefix.2))
 
 error_by : (bang : Bool) (line : Line) (ts : List Placed) (fault : Fault) (end : Option Flaw)
     → GivesTokensAt bang line.text ts end → Some fault ≡ option_map (fault_at line) end
     → IsErrorOf bang line (TuneError.Fault fault)
-error_by bang line ts fault None front e = absurd cc
-error_by bang line ts fault (Some flaw) front e =
-    let whole = front_flaw bang (length line.text) PieceBefore.Other 0 line.text ts (Some flaw) flaw front refl in
+error_by bang line ts fault None prefix e = absurd cc
+error_by bang line ts fault (Some flaw) prefix e =
+    let whole = prefix_flaw bang (length line.text) PieceBefore.Other 0 line.text ts (Some flaw) flaw prefix refl in
     let is : fault ≡ fault_at line flaw = cc in
     (flaw, whole, is, λ us. no_list bang (length line.text) PieceBefore.Other 0 line.text flaw us whole)
 
 pub error_of : (bang : Bool) (line : Line) (ts : List Placed) (fault : Option Fault) (one : Fault)
     → GivesTokensOf bang line ts fault → fault ≡ Some one → IsErrorOf bang line (TuneError.Fault one)
-error_of bang line ts fault one front is = error_by bang line ts one front.0 front.1 (sym is ∙ front.2)
+error_of bang line ts fault one prefix is = error_by bang line ts one prefix.0 prefix.1 (sym is ∙ prefix.2)
 
 -- ---- where there is no piece, there is no chord and no grace group
 pub unmapped : {T U : Type 0} (f : T → U) (o : Option T) → option_map f o ≡ None → o ≡ None

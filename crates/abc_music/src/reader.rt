@@ -37,10 +37,10 @@ pub fn read_music(alloc: Global, line: &Line, bang: bool) -> Result<Row<Placed>,
     ensures fault { IfErr result (λ e. IsErrorOf bang line.now e) }
     ensures good { IfOk result (λ tokens. AreGoodTokens tokens) }
 {
-    let front = read_prefix(alloc, line, bang)?;
-    match front.fault {
+    let prefix = read_prefix(alloc, line, bang)?;
+    match prefix.fault {
         Some(fault) => Err(TuneError::Fault(fault)),
-        None => Ok(front.tokens),
+        None => Ok(prefix.tokens),
     }
 }
 
@@ -48,15 +48,15 @@ pub fn read_music(alloc: Global, line: &Line, bang: bool) -> Result<Row<Placed>,
 /// line break. Linear in the line.
 pub fn read_prefix(alloc: Global, line: &Line, bang: bool) -> Result<TokenPrefix, Memory>
     requires { IsGoodLine line.now }
-    ensures front { IfOk result (λ front. GivesTokensOf bang line.now front.tokens front.fault) }
-    ensures good { IfOk result (λ front. AreGoodTokens front.tokens) }
+    ensures prefix { IfOk result (λ prefix. GivesTokensOf bang line.now prefix.tokens prefix.fault) }
+    ensures good { IfOk result (λ prefix. AreGoodTokens prefix.tokens) }
 {
     let mut tokens = Row::new(alloc);
     let mut place = start(line);
     loop {
         let part = read_part(alloc, line, bang, place)?;
         tokens.append(part.tokens)?;
-        match part.behind {
+        match part.following {
             LineRest::More(next) => place = next,
             LineRest::End(fault) => return Ok(TokenPrefix { tokens, fault }),
         }
@@ -84,24 +84,24 @@ pub fn read_part<'a>(
 ) -> Result<LinePart<'a>, Memory>
     requires line { IsGoodLine line.now }
     requires place { IsWithinLine line.now place }
-    ensures part { IfOk result (λ part. PartOf bang line.now place.entry part.tokens part.behind) }
-    ensures full { IfOk result (λ part. IsFull part.tokens part.behind) }
+    ensures part { IfOk result (λ part. PartOf bang line.now place.entry part.tokens part.following) }
+    ensures full { IfOk result (λ part. IsFull part.tokens part.following) }
     ensures good { IfOk result (λ part. AreGoodTokens part.tokens) }
 {
     let mut tokens = Row::with_room(alloc, place.rest.len().min(MOST))?;
     let mut place = place;
     'pieces: while tokens.len() < MOST {
-        let Some((first, behind)) = place.rest.split_first() else {
+        let Some((first, following)) = place.rest.split_first() else {
             return Ok(LinePart {
                 tokens,
-                behind: LineRest::End(None),
+                following: LineRest::End(None),
             });
         };
         let Some(piece) = piece_at(bang, place.before, place.rest) else {
-            let flaw = line_flaw(bang, place.before, place.at, *first, behind);
+            let flaw = line_flaw(bang, place.before, place.at, *first, following);
             return Ok(LinePart {
                 tokens,
-                behind: LineRest::End(Some(fault_at(line, flaw))),
+                following: LineRest::End(Some(fault_at(line, flaw))),
             });
         };
         let left = place.rest.len();
@@ -115,7 +115,7 @@ pub fn read_part<'a>(
     }
     Ok(LinePart {
         tokens,
-        behind: LineRest::More(place),
+        following: LineRest::More(place),
     })
 }
 
@@ -139,17 +139,17 @@ fn fault_at(line: &Line, flaw: Flaw) -> Fault
     }
 }
 
-/// Returns the fault where there is no piece: `first` and then `behind` are left, and the piece before begins `at`
+/// Returns the fault where there is no piece: `first` and then `following` are left, and the piece before begins `at`
 /// bytes from the end.
-fn line_flaw(bang: bool, before: PieceBefore, at: usize, first: u8, behind: &[u8]) -> Flaw
-    requires small { length behind.now < 2 ^ 30 }
-    requires none { piece_at bang before (first ∷ behind.now) ≡ None }
-    ensures flaw { IsLineFlaw bang before at first behind.now result }
-    ensures within { (n : ℕ) → at ≤ n → length behind.now < n → result.left ≤ n }
+fn line_flaw(bang: bool, before: PieceBefore, at: usize, first: u8, following: &[u8]) -> Flaw
+    requires small { length following.now < 2 ^ 30 }
+    requires none { piece_at bang before (first ∷ following.now) ≡ None }
+    ensures flaw { IsLineFlaw bang before at first following.now result }
+    ensures within { (n : ℕ) → at ≤ n → length following.now < n → result.left ≤ n }
 {
     match kind_after(before, first) {
         Some(kind) => Flaw { kind, left: at },
-        None => own_flaw(bang, before, first, behind),
+        None => own_flaw(bang, before, first, following),
     }
 }
 
@@ -176,45 +176,45 @@ fn kind_if(goes_on: bool, kind: FaultKind) -> Option<FaultKind>
     if goes_on { Some(kind) } else { None }
 }
 
-fn own_flaw(bang: bool, before: PieceBefore, first: u8, behind: &[u8]) -> Flaw
-    requires small { length behind.now < 2 ^ 30 }
-    requires none { piece_at bang before (first ∷ behind.now) ≡ None }
-    ensures flaw { IsOwnFlaw bang first behind.now result }
-    ensures within { result.left ≤ length behind.now + 1 }
+fn own_flaw(bang: bool, before: PieceBefore, first: u8, following: &[u8]) -> Flaw
+    requires small { length following.now < 2 ^ 30 }
+    requires none { piece_at bang before (first ∷ following.now) ≡ None }
+    ensures flaw { IsOwnFlaw bang first following.now result }
+    ensures within { result.left ≤ length following.now + 1 }
 {
     if first == b'"' {
         Flaw {
             kind: FaultKind::Unclosed,
-            left: behind.len() + 1,
+            left: following.len() + 1,
         }
     } else if first == b'[' {
-        bracket_flaw(bang, behind)
+        bracket_flaw(bang, following)
     } else if first == b'{' {
-        grace_fault(bang, behind)
+        grace_fault(bang, following)
     } else {
         Flaw {
             kind: FaultKind::BadByte,
-            left: behind.len() + 1,
+            left: following.len() + 1,
         }
     }
 }
 
-fn bracket_flaw(bang: bool, behind: &[u8]) -> Flaw
-    requires small { length behind.now < 2 ^ 30 }
-    requires none { opening behind.now ≡ Chord → chord_at bang behind.now ≡ None }
-    ensures flaw { IsBracketFlaw (opening behind.now) bang (code "[") behind.now result }
-    ensures within { result.left ≤ length behind.now + 1 }
+fn bracket_flaw(bang: bool, following: &[u8]) -> Flaw
+    requires small { length following.now < 2 ^ 30 }
+    requires none { opening following.now ≡ Chord → chord_at bang following.now ≡ None }
+    ensures flaw { IsBracketFlaw (opening following.now) bang (code "[") following.now result }
+    ensures within { result.left ≤ length following.now + 1 }
 {
-    match opening(behind) {
+    match opening(following) {
         BracketOpening::Bar | BracketOpening::Ending => Flaw {
             kind: FaultKind::BadByte,
-            left: behind.len() + 1,
+            left: following.len() + 1,
         },
         BracketOpening::Inline => Flaw {
             kind: FaultKind::Unclosed,
-            left: behind.len() + 1,
+            left: following.len() + 1,
         },
-        BracketOpening::Chord => chord_fault(bang, behind),
+        BracketOpening::Chord => chord_fault(bang, following),
     }
 }
 

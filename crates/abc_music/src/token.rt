@@ -37,5 +37,5 @@ pub enum LineRest<'a> {
 #[derive(Drop)]
 pub struct LinePart<'a> {
     pub tokens: Row<Placed>,
-    pub behind: LineRest<'a>,
+    pub following: LineRest<'a>,
 }

@@ -34,10 +34,10 @@ use Rattle.abc_notes.proofs.PartLaws.{parts_of_walk, walk_of_parts}
 use Rattle.abc_notes.proofs.InnerLaws.{inner_reader, length-length_then}
 use Rattle.abc_lines.specs.declared.fault.FaultKind.TheVariants.{BadByte, Unclosed}
 
-pub cut_off : (s front c : List ℕ) → s ≡ front ++ c → take (length s - length c) s ≡ front
-cut_off s front c cut =
-    let n : length s - length c ≡ length front = omega (arith, ap length cut, length-append front c) in
-    rw n (ap (take (length front)) cut ∙ take-append_seam front c)
+pub cut_off : (s prefix c : List ℕ) → s ≡ prefix ++ c → take (length s - length c) s ≡ prefix
+cut_off s prefix c cut =
+    let n : length s - length c ≡ length prefix = omega (arith, ap length cut, length-append prefix c) in
+    rw n (ap (take (length prefix)) cut ∙ take-append_seam prefix c)
 
 pub later_assoc : (a b c : Option (List ℕ)) → later_or (later_or a b) c ≡ later_or a (later_or b c)
 later_assoc None b c = refl
@@ -63,15 +63,15 @@ inside_wide : (b : ℕ) → free b ≡ true → is_inside b ≡ true
 inside_wide b h = (and_parts _ _ h).0
 
 -- a bracket after another bracket comes after the length there
-behind_length : (l : LengthForm) (x inside front rest : List ℕ)
-    → IsWrittenLength l → inside ++ (93 ∷ length_then l x) ≡ front ++ (93 ∷ rest)
+after_length : (l : LengthForm) (x inside prefix rest : List ℕ)
+    → IsWrittenLength l → inside ++ (93 ∷ length_then l x) ≡ prefix ++ (93 ∷ rest)
     → length (93 ∷ rest) < length (93 ∷ length_then l x) → length rest < length x
-behind_length l x inside front rest good e shorter =
-    cut_cases front inside (93 ∷ rest) (93 ∷ length_then l x) (sym e) (omega (arith, shorter))
-    (λ same behind. absurd (omega (arith, shorter, ap length behind)))
-    (λ b m same behind. elim (cases_lt (length x) (length (93 ∷ rest))) [
+after_length l x inside prefix rest good e shorter =
+    cut_cases prefix inside (93 ∷ rest) (93 ∷ length_then l x) (sym e) (omega (arith, shorter))
+    (λ same following. absurd (omega (arith, shorter, ap length following)))
+    (λ b m same following. elim (cases_lt (length x) (length (93 ∷ rest))) [
       | inr near ↦ omega (arith, near)
-      | inl far ↦ absurd (length_past 93 l x m rest refl good (rest_same behind) far)
+      | inl far ↦ absurd (length_past 93 l x m rest refl good (rest_same following) far)
     ])
 
 module _ (bang : Bool) where
@@ -80,12 +80,12 @@ module _ (bang : Bool) where
 
   -- ---- a found bracket closes good parts with a head
   pub record Closed (head : Bool) (text c : List ℕ) : Type 0 where
-    pub front : List ℕ
+    pub prefix : List ℕ
     pub rest : List ℕ
     pub parts : List Inner
     pub is : c ≡ 93 ∷ rest
-    pub cut : text ≡ front ++ c
-    pub good : InnerParts bang front parts
+    pub cut : text ≡ prefix ++ c
+    pub good : InnerParts bang prefix parts
     pub has : (head || has_inner_head parts) ≡ true
 
   here-closes : (head : Bool) (text c : List ℕ) → bracket_here head text ≡ Some c → Closed head text c
@@ -93,17 +93,17 @@ module _ (bang : Bool) where
   here-closes head (b ∷ s) c e =
       let found = cond_some _ _ _ e in let p = and_parts _ _ found.0 in
       let is = sym found.1 ∙ ap (λ x. x ∷ s) (eqb-true b 93 p.0) in
-      record { front = []; rest = s; parts = []; is = is; cut = found.1; good = no_part; has = or-false head ∙ p.1 }
+      record { prefix = []; rest = s; parts = []; is = is; cut = found.1; good = no_part; has = or-false head ∙ p.1 }
 
   -- in a name whose exclamation mark is skipped
   abbrev pub good_before : Bool → List ℕ → Bool
   good_before head t = let w = walk (inner_at bang) t in is_done w && (head || has_inner_head w.0)
 
   pub record NameClosed (head : Bool) (text c : List ℕ) : Type 0 where
-    pub behind : List ℕ
-    pub is : text ≡ 33 ∷ behind
+    pub following : List ℕ
+    pub is : text ≡ 33 ∷ following
     pub off : bang ≡ false
-    pub name : NameCut 93 (good_before head) behind c
+    pub name : NameCut 93 (good_before head) following c
 
   in-closes : (head : Bool) (s c : List ℕ) (r : Option (List ℕ × List ℕ))
       → IfSome r (λ z. IsName z.0 × (s ≡ z.0 ++ (33 ∷ z.1)))
@@ -117,7 +117,7 @@ module _ (bang : Bool) where
   in_name-finds head (b ∷ s) c e =
       let found = cond_then _ _ _ e in let p = and_parts _ _ found.0 in
       let name = in-closes head s c (name_at s) (name_at-takes s) found.1 in
-      record { behind = s; is = ap (λ x. x ∷ s) (eqb-true b 33 p.0); off = not-true bang p.1; name = name }
+      record { following = s; is = ap (λ x. x ∷ s) (eqb-true b 33 p.0); off = not-true bang p.1; name = name }
 
   pub parts_before : (head : Bool) (s : List ℕ)
       → good_before head s ≡ true → InnerParts bang s (walk (inner_at bang) s).0
@@ -130,7 +130,7 @@ module _ (bang : Bool) where
       let longest =
       longest_of reader (33 ∷ k.before) (lone_inside, k.before) (lone_at bang k.before found.off k.names) in
       rw found.is (record {
-        front = 33 ∷ k.before;
+        prefix = 33 ∷ k.before;
         rest = k.rest;
         parts = lone_inside ∷ w.0;
         is = k.is;
@@ -144,14 +144,14 @@ module _ (bang : Bool) where
       → inner_at bang text ≡ Some z → Closed (head || has_length z.0) z.1 c
       → Closed head text c
   then-closes head text c z e k =
-      let u = inner_then z.0 k.front in let joined = joined_cut reader (inner_local bang) text c k.front z e k.cut in
+      let u = inner_then z.0 k.prefix in let joined = joined_cut reader (inner_local bang) text c k.prefix z e k.cut in
       record {
-        front = u;
+        prefix = u;
         rest = k.rest;
         parts = z.0 ∷ k.parts;
         is = k.is;
         cut = joined.0;
-        good = then_part u z.0 k.front k.parts (longest_of reader u (z.0, k.front) joined.1) k.good;
+        good = then_part u z.0 k.prefix k.parts (longest_of reader u (z.0, k.prefix) joined.1) k.good;
         has = sym (or_assoc head (has_length z.0) (has_inner_head k.parts)) ∙ k.has;
       }
 
@@ -165,8 +165,8 @@ module _ (bang : Bool) where
   pub last_at-some : (head : Bool) (text : List ℕ) (z : Inner × List ℕ) → inner_at bang text ≡ Some z →
       last_at head text ≡ later_or (last_at (head || has_length z.0) z.1) (bracket_in_name bang head text)
   last_at-some head text z e =
-      let behind = walk (inner_at bang) z.1 in
-      let spelled : inner_then z.0 (spelled_then inner_then behind.0 behind.1) ≡ text =
+      let following = walk (inner_at bang) z.1 in
+      let spelled : inner_then z.0 (spelled_then inner_then following.0 following.1) ≡ text =
       ap (inner_then z.0) (walk_spells reader (inner_local bang) z.1) ∙ sym (stands_at reader text z e).cut in
       rw (walk-some reader text z e, spelled) refl
 
@@ -192,7 +192,7 @@ module _ (bang : Bool) where
 
   pub bracket_within : (text c : List ℕ) → bracket_at bang text ≡ Some c → length c ≤ length text
   bracket_within text c found =
-      let k = bracket_at-closes text c found in omega (arith, ap length k.cut, length-append k.front c)
+      let k = bracket_at-closes text c found in omega (arith, ap length k.cut, length-append k.prefix c)
 
   -- ---- the last bracket is at or after each bracket at which a chord ends, and at it if no exclamation mark is
   -- skipped
@@ -244,7 +244,7 @@ module _ (bang : Bool) where
   }
   cross_last head lone text t z (Some c) e short found only is =
       let k = last_at-closes (head || has_length z.0) z.1 c is in
-      let shorter : length c < length (93 ∷ t) = omega (arith, short, ap length k.cut, length-append k.front c) in
+      let shorter : length c < length (93 ∷ t) = omega (arith, short, ap length k.cut, length-append k.prefix c) in
       record { closing = c; is = last_at-some head text z e ∙ rw is refl; ends = inl (shorter, only) }
 
   cross-found : (head : Bool) (u t v : List ℕ) (part : Inner) (more : List Inner) (z : Inner × List ℕ)
@@ -290,9 +290,9 @@ module _ (bang : Bool) where
   chord_from-takes s (Some []) e = tt
   chord_from-takes s (Some (b ∷ c)) e =
       let k = bracket_at-closes s (b ∷ c) e in let l = length_at-takes c in
-      rw (cut_off s k.front (b ∷ c) k.cut, walk_of_parts reader k.front k.parts k.good) (
+      rw (cut_off s k.prefix (b ∷ c) k.cut, walk_of_parts reader k.prefix k.parts k.good) (
         record { parts = k.good; head = k.has; length = l.1 },
-        k.cut ∙ ap (λ x. k.front ++ x) (k.is ∙ ap (λ x. 93 ∷ x) (sym (rest_same k.is) ∙ l.0)),
+        k.cut ∙ ap (λ x. k.prefix ++ x) (k.is ∙ ap (λ x. 93 ∷ x) (sym (rest_same k.is) ∙ l.0)),
       )
 
   pub chord_at-takes : (s : List ℕ) → TakesChord s (chord_at bang s)
@@ -327,8 +327,8 @@ module _ (bang : Bool) where
       absurd (let k = bracket_at-closes (chord_then f x) [] e in omega (arith, ap length k.is))
   longer_chord f x (b ∷ c) good e shorter =
       let text = chord_then f x in let k = bracket_at-closes text (b ∷ c) e in
-      let cut = k.cut ∙ ap (λ y. k.front ++ (y ∷ c)) (first_same k.is) in
-      let near = behind_length f.length x f.inside k.front c good.length cut (omega (arith, shorter)) in
+      let cut = k.cut ∙ ap (λ y. k.prefix ++ (y ∷ c)) (first_same k.is) in
+      let near = after_length f.length x f.inside k.prefix c good.length cut (omega (arith, shorter)) in
       let inside = take (length text - length (b ∷ c)) text in
       let l = length_at-takes c in (
         (
@@ -374,16 +374,16 @@ module _ (bang : Bool) where
   unfolding bracket_at
   seeking-begins text = record { found = later_none (last_at false text); within = omega arith }
 
-  pub seeking-next : {text rest behind : List ℕ} {head new : Bool} {last next : Option (List ℕ)} {part : Inner} →
-      Seeking text head last rest → inner_at bang rest ≡ Some (part, behind) → new ≡ (head || has_length part) →
-      next ≡ later_or (bracket_in_name bang head rest) last → Seeking text new next behind
-  seeking-next {text} {rest} {behind} {head} {new} {last} {next} {part} stage e newly later =
+  pub seeking-next : {text rest following : List ℕ} {head new : Bool} {last next : Option (List ℕ)} {part : Inner} →
+      Seeking text head last rest → inner_at bang rest ≡ Some (part, following) → new ≡ (head || has_length part) →
+      next ≡ later_or (bracket_in_name bang head rest) last → Seeking text new next following
+  seeking-next {text} {rest} {following} {head} {new} {last} {next} {part} stage e newly later =
       rw (newly, later) (record {
         found =
             sym (later_assoc _ _ last)
-            ∙ ap (λ r. later_or r last) (sym (last_at-some head rest (part, behind) e))
+            ∙ ap (λ r. later_or r last) (sym (last_at-some head rest (part, following) e))
             ∙ stage.found;
-        within = omega (arith, less reader rest (part, behind) e, stage.within);
+        within = omega (arith, less reader rest (part, following) e, stage.within);
       })
 
   pub seeking-ends : {text rest : List ℕ} {head : Bool} {last : Option (List ℕ)} → Seeking text head last rest →
@@ -424,8 +424,8 @@ module _ (bang : Bool) where
       let stop = first_close 93 _ at in
       rw add-one (chord_headless s _ stop.0 (inner_leads s _ stop.1) (headless s stop.0 stop.1 none))
 
-  none_behind : (s t : List ℕ) → (walk (inner_at bang) s).1 ≡ t → HasNone Inner (StandsInside bang) t
-  none_behind s t e = none_of reader t (ap (inner_at bang) (sym e) ∙ stops_at reader s)
+  none_after : (s t : List ℕ) → (walk (inner_at bang) s).1 ≡ t → HasNone Inner (StandsInside bang) t
+  none_after s t e = none_of reader t (ap (inner_at bang) (sym e) ∙ stops_at reader s)
 
   pub chord-flawed : (s w r : List ℕ) (flaw : Flaw)
       → two w r ≡ span_all is_inside s → (length r ≡ 0 → ⊥) → is_done (walk (inner_at bang) s) ≡ false
@@ -436,5 +436,5 @@ module _ (bang : Bool) where
       by_stop [] e = absurd (let clash = sym stuck ∙ ap (λ (t : List ℕ). eqb (length t) 0) e in cc)
       by_stop (b ∷ t) e =
           chord_flawed s (walk (inner_at bang) s).0 b t flaw (some_left is_inside s w r cut some)
-          (inner_leads s (b ∷ t) e) (none_behind s (b ∷ t) e)
+          (inner_leads s (b ∷ t) e) (none_after s (b ∷ t) e)
           (sym (ap (begins is_bracket) e) ∙ other) flawed

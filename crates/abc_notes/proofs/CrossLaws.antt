@@ -9,9 +9,9 @@ use Rattle.std.proofs.lemmas.Option.{some_pair_parts}
 use Rattle.std.proofs.lemmas.List.{length-append, nil_from_length}
 use Rattle.std.proofs.Math.Seq.{drop-append_seam}
 use Rattle.abc_notes.specs.Graces.{GracePart, single, chorded, StandsInGrace, is_in_grace, brace_at, brace_in_chord}
-use Rattle.abc_notes.specs.Graces.{brace_behind, brace_between}
+use Rattle.abc_notes.specs.Graces.{brace_after, brace_between}
 use Rattle.abc_notes.specs.Graces.{brace_in_item, brace_in_part, inside_of_item, inside_of_part, IsItemAt}
-use Rattle.abc_notes.specs.Graces.{stands_behind, at_most_bytes}
+use Rattle.abc_notes.specs.Graces.{stands_after, at_most_bytes}
 use Rattle.abc_notes.specs.declared.part.GraceChord.{GraceChord}
 use Rattle.abc_notes.specs.declared.part.GracePiece.{GracePiece}
 use Rattle.abc_notes.specs.declared.part.Len.{Len}
@@ -45,10 +45,10 @@ add_nothing : (r : Option (List ℕ)) → option_map (λ c. c ++ []) r ≡ r
 add_nothing None = refl
 add_nothing (Some c) = ap Some (append-nil c)
 
-behind_mark : (mark : Option (List ℕ)) (rest v y : List ℕ)
-    → rest ≡ v ++ y → stands_behind (option_map (λ m. m ++ rest) mark) (Some y)
-behind_mark None rest v y is = tt
-behind_mark (Some m) rest v y is =
+after_mark : (mark : Option (List ℕ)) (rest v y : List ℕ)
+    → rest ≡ v ++ y → stands_after (option_map (λ m. m ++ rest) mark) (Some y)
+after_mark None rest v y is = tt
+after_mark (Some m) rest v y is =
     let whole : m ++ rest ≡ (m ++ v) ++ y = ap (λ x. m ++ x) is ∙ sym (append_assoc m v y) in
     whole ∙ ap (λ x. x ++ y) (sym (cut_off (m ++ rest) (m ++ v) y whole))
 
@@ -61,9 +61,9 @@ size_most : (n : ℕ) (bracket : Option (List ℕ)) → at_most_bytes n bracket 
 size_most n None h = omega arith
 size_most n (Some b) h = h
 
-within_front : (front w c rest : List ℕ) → 91 ∷ w ≡ front ++ c → c ≡ 125 ∷ rest → length c ≤ length w
-within_front [] w c rest cut is = absurd (omega (arith, first_same (cut ∙ is)))
-within_front (b ∷ front) w c rest cut is = omega (arith, ap length cut, length-append front c)
+within_prefix : (prefix w c rest : List ℕ) → 91 ∷ w ≡ prefix ++ c → c ≡ 125 ∷ rest → length c ≤ length w
+within_prefix [] w c rest cut is = absurd (omega (arith, first_same (cut ∙ is)))
+within_prefix (b ∷ prefix) w c rest cut is = omega (arith, ap length cut, length-append prefix c)
 
 -- what follows a length
 pub length_shorter : (s : List ℕ) {rest : List ℕ} {len : Len}
@@ -115,9 +115,9 @@ module _ (bang : Bool) where
   quiet_parts head _ _ (then_part u part rest more l others) h =
       let at = longest_is (inner_reader bang) u part rest l in
       let names = ap (list_all is_name_byte) (sym l.stands.cut) ∙ h in
-      let behind = all_parts is_name_byte (inner_then part []) rest
+      let following = all_parts is_name_byte (inner_then part []) rest
       (ap (list_all is_name_byte) (inner_append part [] rest) ∙ names) in
-      let later = quiet_parts (head || has_length part) rest more others behind.1 in
+      let later = quiet_parts (head || has_length part) rest more others following.1 in
       last_at-some bang head u (part, rest) at
       ∙ rw later (unnamed_own head u (part, rest) at (not_named part rest names))
 
@@ -145,12 +145,12 @@ module _ (bang : Bool) where
   brace_upto w (Some b) = option_map (λ c. c ++ b) (brace_in_chord bang (take (length w - length b) w))
 
   pub record Passing (head : Bool) (w : List ℕ) (bracket last : Option (List ℕ)) (rest : List ℕ) : Type 0 where
-    pub front : List ℕ
+    pub prefix : List ℕ
     pub mark : Option (List ℕ)
-    pub cut : w ≡ front ++ rest
+    pub cut : w ≡ prefix ++ rest
     pub is : bracket ≡ option_map (λ m. m ++ rest) mark
     pub brackets : (v y : List ℕ)
-        → rest ≡ v ++ y → bracket_at bang (front ++ v) ≡ later_or (last_at bang head v) (option_map (λ m. m ++ v) mark)
+        → rest ≡ v ++ y → bracket_at bang (prefix ++ v) ≡ later_or (last_at bang head v) (option_map (λ m. m ++ v) mark)
     pub found : last ≡ brace_upto w bracket
     pub left : (walk (inner_at bang) rest).1 ≡ (walk (inner_at bang) w).1
 
@@ -158,118 +158,118 @@ module _ (bang : Bool) where
   unfolding bracket_at
   passing-begins w =
       let brackets = λ (v y : List ℕ) (e : w ≡ v ++ y). sym (later_none (last_at bang false v)) in
-      record { front = []; mark = None; cut = refl; is = refl; brackets = brackets; found = refl; left = refl }
+      record { prefix = []; mark = None; cut = refl; is = refl; brackets = brackets; found = refl; left = refl }
 
-  upto_mark : (w front rest v y : List ℕ) (mark last : Option (List ℕ)) → w ≡ front ++ rest → rest ≡ v ++ y →
-      bracket_at bang (front ++ v) ≡ option_map (λ m. m ++ v) mark
+  upto_mark : (w prefix rest v y : List ℕ) (mark last : Option (List ℕ)) → w ≡ prefix ++ rest → rest ≡ v ++ y →
+      bracket_at bang (prefix ++ v) ≡ option_map (λ m. m ++ v) mark
       → last ≡ brace_upto w (option_map (λ m. m ++ rest) mark)
       → later_or (brace_between bang (option_map (λ m. m ++ rest) mark) (Some y)) last
-      ≡ option_map (λ c. c ++ y) (brace_in_chord bang (front ++ v))
-  upto_mark w front rest v y None last cut is at found = rw (found, chord-none bang (front ++ v) at) refl
-  upto_mark w front rest v y (Some m) last cut is at found =
-      let k = bracket_at-closes bang (front ++ v) (m ++ v) at in let b = m ++ rest in
+      ≡ option_map (λ c. c ++ y) (brace_in_chord bang (prefix ++ v))
+  upto_mark w prefix rest v y None last cut is at found = rw (found, chord-none bang (prefix ++ v) at) refl
+  upto_mark w prefix rest v y (Some m) last cut is at found =
+      let k = bracket_at-closes bang (prefix ++ v) (m ++ v) at in let b = m ++ rest in
       let whole : b ≡ (m ++ v) ++ y = ap (λ x. m ++ x) is ∙ sym (append_assoc m v y) in
-      let line : w ≡ k.front ++ b =
+      let line : w ≡ k.prefix ++ b =
       cut
-      ∙ ap (λ x. front ++ x) is
-      ∙ sym (append_assoc front v y)
+      ∙ ap (λ x. prefix ++ x) is
+      ∙ sym (append_assoc prefix v y)
       ∙ ap (λ x. x ++ y) k.cut
-      ∙ append_assoc k.front (m ++ v) y
-      ∙ ap (λ x. k.front ++ x) (sym whole) in
-      let short = cut_off (front ++ v) k.front (m ++ v) k.cut in
+      ∙ append_assoc k.prefix (m ++ v) y
+      ∙ ap (λ x. k.prefix ++ x) (sym whole) in
+      let short = cut_off (prefix ++ v) k.prefix (m ++ v) k.cut in
       rw (
         found,
         cut_off b (m ++ v) y whole,
-        cut_off w k.front b line,
+        cut_off w k.prefix b line,
         whole,
-        chord-some bang (front ++ v) (m ++ v) at,
+        chord-some bang (prefix ++ v) (m ++ v) at,
         short,
       )
-      (joined (m ++ v) y (brace_behind bang (m ++ v)) (brace_in_chord bang k.front))
+      (joined (m ++ v) y (brace_after bang (m ++ v)) (brace_in_chord bang k.prefix))
 
-  small_mark : (head : Bool) (front rest : List ℕ) (mark : Option (List ℕ)) (n : ℕ) →
-      bracket_at bang (front ++ []) ≡ later_or (last_at bang head []) (option_map (λ m. m ++ []) mark)
-      → length front + length rest ≤ n
+  small_mark : (head : Bool) (prefix rest : List ℕ) (mark : Option (List ℕ)) (n : ℕ) →
+      bracket_at bang (prefix ++ []) ≡ later_or (last_at bang head []) (option_map (λ m. m ++ []) mark)
+      → length prefix + length rest ≤ n
       → at_most_bytes n (option_map (λ m. m ++ rest) mark)
-  small_mark head front rest None n e h = tt
-  small_mark head front rest (Some m) n e h =
+  small_mark head prefix rest None n e h = tt
+  small_mark head prefix rest (Some m) n e h =
       let quiet = last_at-none bang head [] (at_nil (inner_reader bang)) in
-      let short = bracket_within bang (front ++ []) (m ++ []) (e ∙ ap (λ r. later_or r (Some (m ++ []))) quiet) in
-      omega (arith, h, short, length-append front [], length-append m [], length-append m rest)
+      let short = bracket_within bang (prefix ++ []) (m ++ []) (e ∙ ap (λ r. later_or r (Some (m ++ []))) quiet) in
+      omega (arith, h, short, length-append prefix [], length-append m [], length-append m rest)
 
   module _ {head : Bool} {w : List ℕ} {bracket last : Option (List ℕ)} {rest : List ℕ}
       (stage : Passing head w bracket last rest) where
     passing-upto : (v y : List ℕ) → rest ≡ v ++ y → last_at bang head v ≡ None →
         later_or (brace_between bang bracket (Some y)) last
-        ≡ option_map (λ c. c ++ y) (brace_in_chord bang (stage.front ++ v))
+        ≡ option_map (λ c. c ++ y) (brace_in_chord bang (stage.prefix ++ v))
     passing-upto v y is quiet =
         let at = stage.brackets v y is ∙ ap (λ r. later_or r (option_map (λ (m : List ℕ). m ++ v) stage.mark)) quiet in
         ap (λ b. later_or (brace_between bang b (Some y)) last) stage.is
-        ∙ upto_mark w stage.front rest v y stage.mark last stage.cut is at (stage.found ∙ ap (brace_upto w) stage.is)
+        ∙ upto_mark w stage.prefix rest v y stage.mark last stage.cut is at (stage.found ∙ ap (brace_upto w) stage.is)
 
-    passing-behind : (v y : List ℕ) → rest ≡ v ++ y → stands_behind bracket (Some y)
-    passing-behind v y is = rw stage.is (behind_mark stage.mark rest v y is)
+    passing-following : (v y : List ℕ) → rest ≡ v ++ y → stands_after bracket (Some y)
+    passing-following v y is = rw stage.is (after_mark stage.mark rest v y is)
 
-    pub rest-behind : stands_behind bracket (Some rest)
-    rest-behind = passing-behind [] rest refl
+    pub rest-following : stands_after bracket (Some rest)
+    rest-following = passing-following [] rest refl
 
     -- whether or not there is a bracket in a name
     found_or : (closing : Option (List ℕ)) → bracket_in_name bang head rest ≡ closing →
         (later_or (brace_between bang bracket closing) last ≡ brace_upto w (later_or closing bracket))
-        × stands_behind bracket closing
+        × stands_after bracket closing
     found_or None e = (stage.found, tt)
     found_or (Some closing) e =
-        let c = candidate head rest closing e in let u = stage.front ++ c.0 in
+        let c = candidate head rest closing e in let u = stage.prefix ++ c.0 in
         let line : w ≡ u ++ closing =
-        stage.cut ∙ ap (λ x. stage.front ++ x) c.1 ∙ sym (append_assoc stage.front c.0 closing) in
+        stage.cut ∙ ap (λ x. stage.prefix ++ x) c.1 ∙ sym (append_assoc stage.prefix c.0 closing) in
         let upto = ap (λ (t : List ℕ). option_map (λ (x : List ℕ). x ++ closing) (brace_in_chord bang t))
         (sym (cut_off w u closing line)) in
-        (passing-upto c.0 closing c.1 c.2 ∙ upto, passing-behind c.0 closing c.1)
+        (passing-upto c.0 closing c.1 c.2 ∙ upto, passing-following c.0 closing c.1)
 
     pub passing-found : {closing : Option (List ℕ)} → closing ≡ bracket_in_name bang head rest →
         later_or (brace_between bang bracket closing) last ≡ brace_upto w (later_or closing bracket)
     passing-found {closing} e = (found_or closing (sym e)).0
 
-    pub closing-behind : {closing : Option (List ℕ)}
-        → closing ≡ bracket_in_name bang head rest → stands_behind bracket closing
-    closing-behind {closing} e = (found_or closing (sym e)).1
+    pub closing-following : {closing : Option (List ℕ)}
+        → closing ≡ bracket_in_name bang head rest → stands_after bracket closing
+    closing-following {closing} e = (found_or closing (sym e)).1
 
     pub passing-small : (n : ℕ) → length w ≤ n → at_most_bytes n bracket
     passing-small n h =
-        let within : length stage.front + length rest ≤ n =
-        omega (arith, h, ap length stage.cut, length-append stage.front rest) in
-        rw stage.is (small_mark head stage.front rest stage.mark n (stage.brackets [] rest refl) within)
+        let within : length stage.prefix + length rest ≤ n =
+        omega (arith, h, ap length stage.cut, length-append stage.prefix rest) in
+        rw stage.is (small_mark head stage.prefix rest stage.mark n (stage.brackets [] rest refl) within)
 
     pub passing-size : size_of bracket ≤ length w
     passing-size = size_most (length w) bracket (passing-small (length w) (omega arith))
 
-    pub passing-next : {new : Bool} {next found : Option (List ℕ)} {behind : List ℕ} {part : Inner} →
-        inner_at bang rest ≡ Some (inner_pair part behind) → new ≡ (head || has_length part) →
+    pub passing-next : {new : Bool} {next found : Option (List ℕ)} {following : List ℕ} {part : Inner} →
+        inner_at bang rest ≡ Some (inner_pair part following) → new ≡ (head || has_length part) →
         next ≡ later_or (bracket_in_name bang head rest) bracket
-        → found ≡ brace_upto w next → Passing new w next found behind
-    passing-next {behind = behind} {part = part} e newly nextly so_far =
-        let r = inner_reader bang in let stands = stands_at r rest (part, behind) e in
+        → found ≡ brace_upto w next → Passing new w next found following
+    passing-next {following = following} {part = part} e newly nextly so_far =
+        let r = inner_reader bang in let stands = stands_at r rest (part, following) e in
         let one = inner_then part [] in let own = own_bracket head part in
-        let split : rest ≡ one ++ behind = stands.cut ∙ sym (inner_append part [] behind) in
+        let split : rest ≡ one ++ following = stands.cut ∙ sym (inner_append part [] following) in
         let before = stage.is ∙ ap (λ (x : List ℕ). option_map (λ (m : List ℕ). m ++ x) stage.mark) split in
         let named = ap (bracket_in_name bang head) stands.cut
-        ∙ part_own head part behind stands.good (ap (inner_at bang) (sym stands.cut) ∙ e) in
+        ∙ part_own head part following stands.good (ap (inner_at bang) (sym stands.cut) ∙ e) in
         rw newly (record {
-          front = stage.front ++ one;
+          prefix = stage.prefix ++ one;
           mark = later_or own (option_map (λ (m : List ℕ). m ++ one) stage.mark);
-          cut = stage.cut ∙ ap (λ x. stage.front ++ x) split ∙ sym (append_assoc stage.front one behind);
-          is = nextly ∙ rw (named, before) (joined one behind own stage.mark);
+          cut = stage.cut ∙ ap (λ x. stage.prefix ++ x) split ∙ sym (append_assoc stage.prefix one following);
+          is = nextly ∙ rw (named, before) (joined one following own stage.mark);
           brackets = λ v y is.
-              let u = one ++ v in let there = joined_cut r (inner_local bang) rest y v (part, behind) e is in
+              let u = one ++ v in let there = joined_cut r (inner_local bang) rest y v (part, following) e is in
               let line : rest ≡ u ++ y = rw (inner_append part [] v) there.0 in
               let at : inner_at bang u ≡ Some (inner_pair part v) = rw (inner_append part [] v) there.1 in
               let named : bracket_in_name bang head u ≡ option_map (λ (m : List ℕ). m ++ v) own =
               rw (inner_append part [] v) (part_own head part v stands.good there.1) in
               let later = last_at bang (head || has_length part) v in
-              ap (bracket_at bang) (append_assoc stage.front one v) ∙ stage.brackets u y line
+              ap (bracket_at bang) (append_assoc stage.prefix one v) ∙ stage.brackets u y line
               ∙ rw (last_at-some bang head u (part, v) at, named, later_assoc later, joined one v own stage.mark) refl;
           found = so_far;
-          left = sym (left_some r rest (part, behind) e) ∙ stage.left;
+          left = sym (left_some r rest (part, following) e) ∙ stage.left;
         })
 
     pub passing-ends : inner_at bang rest ≡ None → is_done (walk (inner_at bang) w) ≡ true →
@@ -278,21 +278,21 @@ module _ (bang : Bool) where
         let nothing : rest ≡ [] =
         sym (left_none (inner_reader bang) rest none) ∙ stage.left ∙ nil_from_length _ (eqb-true _ 0 done) in
         let quiet = last_at-none bang head [] (at_nil (inner_reader bang)) in
-        let all = brace_in_chord bang (stage.front ++ []) in
+        let all = brace_in_chord bang (stage.prefix ++ []) in
         passing-upto [] rest refl quiet
         ∙ ap (λ (x : List ℕ). option_map (λ (c : List ℕ). c ++ x) all) nothing
         ∙ add_nothing all
-        ∙ ap (brace_in_chord bang) (ap (λ x. stage.front ++ x) (sym nothing) ∙ sym stage.cut)
+        ∙ ap (brace_in_chord bang) (ap (λ x. stage.prefix ++ x) (sym nothing) ∙ sym stage.cut)
 
   -- ---- what is found is within the chord
   pub chord-within : (w c : List ℕ) → brace_in_chord bang w ≡ Some c → length c ≤ length w
   unfolding brace_in_chord
-  chord-within w c e = let k = brace_at-closes bang (91 ∷ w) c e in within_front k.front w c k.rest k.cut k.is
+  chord-within w c e = let k = brace_at-closes bang (91 ∷ w) c e in within_prefix k.prefix w c k.rest k.cut k.is
 
   clear_closed : (w d : List ℕ) → list_all is_in_grace w ≡ true → ClosedGroup bang (91 ∷ w) d → ⊥
   clear_closed w d clear k =
-      let line = k.cut ∙ ap (λ x. k.front ++ x) k.is in
-      let clash = (all_parts is_in_grace k.front (125 ∷ k.rest) (ap (list_all is_in_grace) (sym line) ∙ clear)).1 in cc
+      let line = k.cut ∙ ap (λ x. k.prefix ++ x) k.is in
+      let clash = (all_parts is_in_grace k.prefix (125 ∷ k.rest) (ap (list_all is_in_grace) (sym line) ∙ clear)).1 in cc
 
   pub clear-none : (w : List ℕ) → list_all is_in_grace w ≡ true → brace_in_chord bang w ≡ None
   unfolding brace_in_chord
@@ -306,13 +306,13 @@ module _ (bang : Bool) where
   same_brace_in (GracePiece.Chord inside) (single f) text e = absurd cc
   same_brace_in (GracePiece.Chord inside) (chorded f) text e = let same : inside.now ≡ f.inside = cc in rw same refl
 
-  item_stands : (item : GracePiece) (part : GracePart) (text behind : List ℕ)
+  item_stands : (item : GracePiece) (part : GracePart) (text following : List ℕ)
       → inside_of_item item ≡ inside_of_part part
-      → StandsInGrace bang part text behind → IsItemAt bang item text
-  item_stands (GracePiece.Part p) part text behind e stands = tt
-  item_stands (GracePiece.Chord inside) (single f) text behind e stands = absurd cc
-  item_stands (GracePiece.Chord inside) (chorded f) text behind e stands =
-      let same : inside.now ≡ f.inside = cc in let tail = 93 ∷ length_then f.length behind in
+      → StandsInGrace bang part text following → IsItemAt bang item text
+  item_stands (GracePiece.Part p) part text following e stands = tt
+  item_stands (GracePiece.Chord inside) (single f) text following e stands = absurd cc
+  item_stands (GracePiece.Chord inside) (chorded f) text following e stands =
+      let same : inside.now ≡ f.inside = cc in let tail = 93 ∷ length_then f.length following in
       let drops = ap (drop (suc (length f.inside))) stands.cut ∙ drop-append_seam (91 ∷ f.inside) tail in
       rw same (
         omega (arith, ap length stands.cut, length-append f.inside tail),
@@ -320,13 +320,14 @@ module _ (bang : Bool) where
         stands.cut ∙ ap (λ t. (91 ∷ f.inside) ++ t) (sym drops),
       )
 
-  module _ (item : GracePiece) {text behind : List ℕ} {body : List GraceChord} {lengthy : Bool}
-      (f : FoundPart bang text body lengthy (inside_of_item item) behind) where
+  module _ (item : GracePiece) {text following : List ℕ} {body : List GraceChord} {lengthy : Bool}
+      (f : FoundPart bang text body lengthy (inside_of_item item) following) where
     pub item-brace : brace_in_item bang item text ≡ brace_in_part bang f.part text
     item-brace = same_brace_in item f.part text f.encloses
 
     pub item-at : IsItemAt bang item text
-    item-at = item_stands item f.part text behind f.encloses (stands_at (part_reader bang) text (f.part, behind) f.at)
+    item-at =
+        item_stands item f.part text following f.encloses (stands_at (part_reader bang) text (f.part, following) f.at)
 
   -- ---- after one chord, up to a closing byte
   pub brace_fits : (s : List ℕ) {rest brace : List ℕ} {len : Len}
@@ -334,7 +335,7 @@ module _ (bang : Bool) where
       → Some brace ≡ brace_at bang rest → length brace ≤ length s
   brace_fits s {rest} {brace} e found =
       let k = brace_at-closes bang rest brace (sym found) in
-      omega (arith, length_shorter s e, ap length k.cut, length-append k.front brace)
+      omega (arith, length_shorter s e, ap length k.cut, length-append k.prefix brace)
 
   pub past_is : (closing : List ℕ) {bracket chord s rest brace : List ℕ} {b : ℕ} {len : Len} →
       bracket ≡ take (length bracket - length closing) bracket ++ closing
@@ -342,19 +343,19 @@ module _ (bang : Bool) where
       → length_read len rest ≡ length_read (len_of (length_from s).0) (length_from s).1
       → Some brace ≡ brace_at bang rest
       → Some (drop (length chord - length brace) bracket) ≡ brace_between bang (Some bracket) (Some closing)
-  past_is closing {bracket} {chord} {s} {rest} {brace} {b} behind is first e found =
+  past_is closing {bracket} {chord} {s} {rest} {brace} {b} following is first e found =
       let k = brace_at-closes bang rest brace (sym found) in let l = length_from s in
-      let x = length_then l.0 [] in let y = b ∷ (x ++ k.front) in
+      let x = length_then l.0 [] in let y = b ∷ (x ++ k.prefix) in
       let same : rest ≡ l.1 = ap (λ p. p.1) e in
-      let long : length_then l.0 l.1 ≡ x ++ (k.front ++ brace) =
+      let long : length_then l.0 l.1 ≡ x ++ (k.prefix ++ brace) =
       sym (length_append l.0 [] l.1) ∙ ap (λ t. x ++ t) (sym same ∙ k.cut) in
-      let split = (length_at-takes s).0 ∙ long ∙ sym (append_assoc x k.front brace) in
+      let split = (length_at-takes s).0 ∙ long ∙ sym (append_assoc x k.prefix brace) in
       let spelled : chord ≡ y ++ brace = first ∙ ap (λ t. b ∷ t) split in
-      let line = behind ∙ ap (λ t. t ++ closing) (sym is ∙ spelled) ∙ append_assoc y brace closing in
+      let line = following ∙ ap (λ t. t ++ closing) (sym is ∙ spelled) ∙ append_assoc y brace closing in
       let count : length chord - length brace ≡ length y = omega (arith, ap length spelled, length-append y brace) in
       let drops : drop (length chord - length brace) bracket ≡ brace ++ closing =
       ap (λ n. drop n bracket) count ∙ ap (drop (length y)) line ∙ drop-append_seam y (brace ++ closing) in
-      let reads = ap (brace_behind bang) (sym is ∙ first) ∙ ap (brace_at bang) (sym same) ∙ sym found in
+      let reads = ap (brace_after bang) (sym is ∙ first) ∙ ap (brace_at bang) (sym same) ∙ sym found in
       ap Some drops ∙ ap (option_map (λ (c : List ℕ). c ++ closing)) (sym reads)
 
   -- ---- in a part
@@ -364,11 +365,11 @@ module _ (bang : Bool) where
   unfolding brace_in_chord
   drops_in_chord text inside brace cut found =
       let k = brace_at-closes bang (91 ∷ inside) brace (sym found) in let tail = drop (suc (length inside)) text in
-      let count : length inside + 1 - length brace ≡ length k.front =
-      omega (arith, ap length k.cut, length-append k.front brace) in
-      let line : text ≡ k.front ++ (brace ++ tail) =
-      cut ∙ ap (λ t. t ++ tail) k.cut ∙ append_assoc k.front brace tail in
-      ap (λ n. drop n text) count ∙ ap (drop (length k.front)) line ∙ drop-append_seam k.front (brace ++ tail)
+      let count : length inside + 1 - length brace ≡ length k.prefix =
+      omega (arith, ap length k.cut, length-append k.prefix brace) in
+      let line : text ≡ k.prefix ++ (brace ++ tail) =
+      cut ∙ ap (λ t. t ++ tail) k.cut ∙ append_assoc k.prefix brace tail in
+      ap (λ n. drop n text) count ∙ ap (drop (length k.prefix)) line ∙ drop-append_seam k.prefix (brace ++ tail)
 
   pub chord-brace : (text : List ℕ) {item : GracePiece} {brace : List ℕ} {inside : Bor (List ℕ)}
       → item ≡ GracePiece.Chord inside

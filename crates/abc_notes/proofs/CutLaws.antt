@@ -56,8 +56,8 @@ inner_append _ v y = refl
 -- ---- two cuts of one text
 pub record Cut (u w y x : List ℕ) : Type 0 where
   pub between : List ℕ
-  pub behind : x ≡ between ++ y
-  pub front : u ≡ w ++ between
+  pub following : x ≡ between ++ y
+  pub prefix : u ≡ w ++ between
 
 pub first_same : {a b : ℕ} {s t : List ℕ} → a ∷ s ≡ b ∷ t → a ≡ b
 first_same e = cc
@@ -66,20 +66,24 @@ pub rest_same : {a b : ℕ} {s t : List ℕ} → a ∷ s ≡ b ∷ t → s ≡ t
 rest_same e = cc
 
 pub cut_at : (u w y x : List ℕ) → u ++ y ≡ w ++ x → length y ≤ length x → Cut u w y x
-cut_at u [] y x e h = record { between = u; behind = sym e; front = refl }
+cut_at u [] y x e h = record { between = u; following = sym e; prefix = refl }
 cut_at [] (b ∷ w) y x e h = absurd (omega (arith, h, ap length e, length-append w x))
 cut_at (a ∷ u) (b ∷ w) y x e h =
     let r = cut_at u w y x (rest_same e) h in
-    record { between = r.between; behind = r.behind; front = ap (λ c. c ∷ u) (first_same e) ∙ ap (λ s. b ∷ s) r.front }
+    record {
+      between = r.between;
+      following = r.following;
+      prefix = ap (λ c. c ∷ u) (first_same e) ∙ ap (λ s. b ∷ s) r.prefix;
+    }
 
 -- they are one cut, or there are some bytes between them
 pub cut_cases : {P : Type 0} (u w y x : List ℕ) → u ++ y ≡ w ++ x → length y ≤ length x → (u ≡ w → x ≡ y → P) →
     ((b : ℕ) (m : List ℕ) → u ≡ w ++ (b ∷ m) → x ≡ b ∷ (m ++ y) → P) → P
-cut_cases {P} u w y x e h here apart = let c = cut_at u w y x e h in by_between c.between c.front c.behind
+cut_cases {P} u w y x e h here apart = let c = cut_at u w y x e h in by_between c.between c.prefix c.following
   where
     by_between : (m : List ℕ) → u ≡ w ++ m → x ≡ m ++ y → P
-    by_between [] front behind = here (front ∙ append-nil w) behind
-    by_between (b ∷ m) front behind = apart b m front behind
+    by_between [] prefix following = here (prefix ∙ append-nil w) following
+    by_between (b ∷ m) prefix following = apart b m prefix following
 
 -- ---- parts that may come before any text
 pub record Local (I : Type 0) (Stands : I → List ℕ → List ℕ → Type 0) (one : I → List ℕ → List ℕ) : Type 0 where
@@ -98,9 +102,9 @@ module _
     {I : Type 0} {Stands : I → List ℕ → List ℕ → Type 0} {at : List ℕ → Option (I × List ℕ)} {one : I → List ℕ → List ℕ}
     (r : Reader I Stands at) (k : Local I Stands one) where
   pub record AtCut (u y : List ℕ) (z : I × List ℕ) : Type 0 where
-    pub front : List ℕ
-    pub behind : z.1 ≡ front ++ y
-    pub at_cut : at u ≡ Some (z.0, front)
+    pub prefix : List ℕ
+    pub following : z.1 ≡ prefix ++ y
+    pub at_cut : at u ≡ Some (z.0, prefix)
 
   -- a part at the start of a text is also at the start if the text goes on
   pub moved : (part : I) (u v y : List ℕ) → Stands part u v → Stands part (u ++ y) (v ++ y)
@@ -113,30 +117,31 @@ module _
       let stands = stands_at r (u ++ y) z e in
       let spelt : u ++ y ≡ one z.0 [] ++ z.1 = k.spells z.0 (u ++ y) z.1 stands ∙ sym (k.appends z.0 [] z.1) in
       let c = cut_at u (one z.0 []) y z.1 spelt h in
-      let here : u ≡ one z.0 c.between = c.front ∙ k.appends z.0 [] c.between in
+      let here : u ≡ one z.0 c.between = c.prefix ∙ k.appends z.0 [] c.between in
       let o = r.reaches z.0 u c.between (k.moves z.0 (u ++ y) z.1 u c.between stands here) in
       elim o.2 [
         | inl shorter ↦
             (let longest =
             (longest_of r (u ++ y) z e).longest o.0.0 (o.0.1 ++ y) (moved o.0.0 u o.0.1 y (stands_at r u o.0 o.1)) in
             absurd (omega
-            (arith, shorter, longest, length-append o.0.1 y, ap length c.behind, length-append c.between y)))
-        | inr same ↦ record { front = c.between; behind = c.behind; at_cut = o.1 ∙ ap Some same }
+            (arith, shorter, longest, length-append o.0.1 y, ap length c.following, length-append c.between y)))
+        | inr same ↦ record { prefix = c.between; following = c.following; at_cut = o.1 ∙ ap Some same }
       ]
 
   -- up to the cut
-  pub read_upto : (u y front : List ℕ) (z : I × List ℕ)
-      → at (u ++ y) ≡ Some z → z.1 ≡ front ++ y → at u ≡ Some (z.0, front)
-  read_upto u y front z e behind =
-      let a = read_cut u y z e (omega (arith, ap length behind, length-append front y)) in
-      a.at_cut ∙ ap (λ (x : List ℕ). Some (z.0, x)) (append_cancel_right a.front front y (sym a.behind ∙ behind))
+  pub read_upto : (u y prefix : List ℕ) (z : I × List ℕ)
+      → at (u ++ y) ≡ Some z → z.1 ≡ prefix ++ y → at u ≡ Some (z.0, prefix)
+  read_upto u y prefix z e following =
+      let a = read_cut u y z e (omega (arith, ap length following, length-append prefix y)) in
+      a.at_cut
+      ∙ ap (λ (x : List ℕ). Some (z.0, x)) (append_cancel_right a.prefix prefix y (sym a.following ∙ following))
 
   -- a part and the text after it, which is cut off
-  pub joined_cut : (text c front : List ℕ) (z : I × List ℕ) → at text ≡ Some z → z.1 ≡ front ++ c →
-      (text ≡ one z.0 front ++ c) × (at (one z.0 front) ≡ Some (z.0, front))
-  joined_cut text c front z e behind =
-      let cut = k.spells z.0 text z.1 (stands_at r text z e) ∙ ap (one z.0) behind ∙ sym (k.appends z.0 front c) in
-      (cut, read_upto (one z.0 front) c front z (ap at (sym cut) ∙ e) behind)
+  pub joined_cut : (text c prefix : List ℕ) (z : I × List ℕ) → at text ≡ Some z → z.1 ≡ prefix ++ c →
+      (text ≡ one z.0 prefix ++ c) × (at (one z.0 prefix) ≡ Some (z.0, prefix))
+  joined_cut text c prefix z e following =
+      let cut = k.spells z.0 text z.1 (stands_at r text z e) ∙ ap (one z.0) following ∙ sym (k.appends z.0 prefix c) in
+      (cut, read_upto (one z.0 prefix) c prefix z (ap at (sym cut) ∙ e) following)
 
   -- if a text goes on, its part is read as before, or one is read that ends after the cut
   pub read_on : (part : I) (u v y : List ℕ) → IsLongest I Stands u part v →
@@ -149,9 +154,9 @@ module _
           | inl past ↦ inr (o.0, o.1, past)
           | inr before ↦
               (let a = read_cut u y o.0 o.1 before in
-              let same = (some_pair_parts o.0.0 part a.front v (sym a.at_cut ∙ longest_is r u part v l)).1 in
+              let same = (some_pair_parts o.0.0 part a.prefix v (sym a.at_cut ∙ longest_is r u part v l)).1 in
               absurd (omega
-              (arith, shorter, ap length a.behind, length-append a.front y, length-append v y, ap length same)))
+              (arith, shorter, ap length a.following, length-append a.prefix y, length-append v y, ap length same)))
         ]
       ]
 
@@ -216,10 +221,11 @@ free_past : (close : ℕ) (s rest m t : List ℕ)
     → free close ≡ false → list_all free s ≡ true → s ++ rest ≡ m ++ (close ∷ t)
     → length rest < length (close ∷ t) → ⊥
 free_past close s rest m t closes all e short =
-    cut_cases s m rest (close ∷ t) e (omega (arith, short)) (λ front behind. omega (arith, short, ap length behind))
-    (λ b bs front behind.
-    let here = (all_parts free m (b ∷ bs) (ap (list_all free) (sym front) ∙ all)).1 in
-    both_ways (free b) (ap free (sym (first_same behind)) ∙ closes) (and_parts (free b) (list_all free bs) here).0)
+    cut_cases s m rest (close ∷ t) e (omega (arith, short))
+    (λ prefix following. omega (arith, short, ap length following))
+    (λ b bs prefix following.
+    let here = (all_parts free m (b ∷ bs) (ap (list_all free) (sym prefix) ∙ all)).1 in
+    both_ways (free b) (ap free (sym (first_same following)) ∙ closes) (and_parts (free b) (list_all free bs) here).0)
 
 pub length_past : (close : ℕ) (l : LengthForm) (rest m t : List ℕ)
     → free close ≡ false → IsWrittenLength l → length_then l rest ≡ m ++ (close ∷ t)
@@ -235,9 +241,9 @@ note_free : (f : NoteForm) → IsNote f → list_all free (note_then f []) ≡ t
 note_free f good =
     let b = letter_byte f.low f.letter in let t = length_then f.length [] in
     let marks = wider is_mark free f.marks mark_free good.marks in
-    let behind = all_join free f.marks t marks (length_free f.length good.length) in
+    let following = all_join free f.marks t marks (length_free f.length good.length) in
     sign_free f.sign (b ∷ (f.marks ++ t))
-    (and_from (free b) (list_all free (f.marks ++ t)) (letter_free f.low f.letter) behind)
+    (and_from (free b) (list_all free (f.marks ++ t)) (letter_free f.low f.letter) following)
 
 abbrev pub is_named : Inner → Bool
 is_named (named_inside name) = true
@@ -282,9 +288,9 @@ named_crosses : (bang : Bool) (close : ℕ) (name u t rest : List ℕ) → eqb c
 named_crosses bang close name [] t rest other off good e short = absurd (eqb-false close 33 other (sym (first_same e)))
 named_crosses bang close name (b ∷ u) t rest other off good e short =
     cut_cases name u (33 ∷ rest) (close ∷ t) (rest_same e) (omega (arith, short))
-    (λ front behind. absurd (eqb-false close 33 other (first_same behind)))
-    (λ c after front behind.
-    let is : name ≡ u ++ (close ∷ after) = front ∙ ap (λ x. u ++ (x ∷ after)) (sym (first_same behind)) in
+    (λ prefix following. absurd (eqb-false close 33 other (first_same following)))
+    (λ c after prefix following.
+    let is : name ≡ u ++ (close ∷ after) = prefix ∙ ap (λ x. u ++ (x ∷ after)) (sym (first_same following)) in
     let named = subst IsName is good in
     record {
       before = u;
@@ -295,7 +301,7 @@ named_crosses bang close name (b ∷ u) t rest other off good e short =
           ap (λ x. inner_at bang (x ∷ u)) (sym (first_same e))
           ∙ lone_at bang u off (all_parts is_name_byte u (close ∷ after) named.bytes).0;
       spelled = sym e ∙ ap (λ (n : List ℕ). 33 ∷ (n ++ (33 ∷ rest))) is;
-      tail = ap (λ x. close ∷ x) (sym (rest_same behind));
+      tail = ap (λ x. close ∷ x) (sym (rest_same following));
     })
 
 -- the part ends after the closing byte

@@ -18,7 +18,7 @@ use Rattle.abc_notes.specs.Graces.{is_slash_byte, grace_then, IsGrace, body_of_p
 use Rattle.abc_notes.specs.Graces.{grace_unclosed, grace_open}
 use Rattle.abc_notes.specs.Graces.{grace_flawed, chorded_read, single_read, grace_part_at, brace_here, brace_in}
 use Rattle.abc_notes.specs.Graces.{brace_in_name, closes_at}
-use Rattle.abc_notes.specs.Graces.{last_closing, brace_in_chord, brace_behind, brace_in_part, brace_at, grace_from}
+use Rattle.abc_notes.specs.Graces.{last_closing, brace_in_chord, brace_after, brace_in_part, brace_at, grace_from}
 use Rattle.abc_notes.specs.Graces.{grace_at, bodied, body_inside}
 use Rattle.abc_notes.specs.Graces.{inside_of_part, IsPartFlaw, item_within}
 use Rattle.abc_notes.specs.Decorations.{is_name_byte}
@@ -151,16 +151,17 @@ module _ (bang : Bool) where
   given z = bodied (body_of_part z.0) (part_has_length z.0) (inside_of_part z.0) z.1
 
   pub record FoundPart (s : List ℕ) (body : List GraceChord) (lengthy : Bool) (inside : Option (List ℕ))
-      (behind : List ℕ) : Type 0 where
+      (following : List ℕ) : Type 0 where
     pub part : GracePart
-    pub at : grace_part_at bang s ≡ Some (part_with part behind)
+    pub at : grace_part_at bang s ≡ Some (part_with part following)
     pub gives : body ≡ body_of_part part
     pub has : lengthy ≡ part_has_length part
     pub encloses : inside ≡ inside_of_part part
 
-  pub found_part : (s : List ℕ) {body : List GraceChord} {lengthy : Bool} {inside : Option (List ℕ)} {behind : List ℕ} →
-      Some (bodied body lengthy inside behind) ≡ option_map given (grace_part_at bang s)
-      → FoundPart s body lengthy inside behind
+  pub found_part : (s : List ℕ) {body : List GraceChord} {lengthy : Bool} {inside : Option (List ℕ)}
+      {following : List ℕ}
+      → Some (bodied body lengthy inside following) ≡ option_map given (grace_part_at bang s)
+      → FoundPart s body lengthy inside following
   found_part s h =
       let o = read_from given (grace_part_at bang s) _ h in
       record {
@@ -180,14 +181,14 @@ module _ (bang : Bool) where
     pub flaw : (f : Flaw) → GraceFlawed bang before rest f → GraceFlawed bang None w f
     pub within : length rest ≤ length w
     pub small : at_most (length w) before
-    pub behind : at_least (length rest) before
+    pub following : at_least (length rest) before
 
   pub group-begins : (w : List ℕ) → Group w None w
-  group-begins w = record { left = refl; flaw = λ f h. h; within = omega arith; small = tt; behind = tt }
+  group-begins w = record { left = refl; flaw = λ f h. h; within = omega arith; small = tt; following = tt }
 
-  place_behind : (b : Bool) (n here : ℕ) → n ≤ here → at_least n (length_at_place b here)
-  place_behind true n here h = h
-  place_behind false n here h = tt
+  place_after : (b : Bool) (n here : ℕ) → n ≤ here → at_least n (length_at_place b here)
+  place_after true n here h = h
+  place_after false n here h = tt
 
   stuck_at : (before : Option ℕ) (rest : List ℕ) (flaw : Flaw)
       → grace_part_at bang rest ≡ None → IsPartFlaw bang before rest flaw
@@ -197,33 +198,34 @@ module _ (bang : Bool) where
 
   flaw_small : (before : Option ℕ) (left here n : ℕ) → at_most n before → at_least here before → here ≤ n →
       MatchOption before (left ≤ here) (λ at. here ≤ at → left ≤ at) → left ≤ n
-  flaw_small None left here n small behind h within = omega (arith, h, within)
-  flaw_small (Some at) left here n small behind h within = omega (arith, small, within behind)
+  flaw_small None left here n small following h within = omega (arith, h, within)
+  flaw_small (Some at) left here n small following h within = omega (arith, small, within following)
 
-  module _ {s behind : List ℕ} {body : List GraceChord} {lengthy : Bool} {inside : Option (List ℕ)}
-      (f : FoundPart s body lengthy inside behind) where
-    pub part_less : length behind < length s
-    part_less = less part_reader s (f.part, behind) f.at
+  module _ {s following : List ℕ} {body : List GraceChord} {lengthy : Bool} {inside : Option (List ℕ)}
+      (f : FoundPart s body lengthy inside following) where
+    pub part_less : length following < length s
+    part_less = less part_reader s (f.part, following) f.at
 
     pub group-next : {w : List ℕ} {before place : Option ℕ}
-        → Group w before s → place ≡ length_at_place lengthy (length s) → Group w place behind
+        → Group w before s → place ≡ length_at_place lengthy (length s) → Group w place following
     group-next {w} {before} stage placed =
-        let later = λ (flaw : Flaw) (h : GraceFlawed bang (length_at_place lengthy (length s)) behind flaw).
-        stuck_later before s f.part behind flaw (longest_of part_reader s (f.part, behind) f.at) (rw f.has at h) in
+        let later = λ (flaw : Flaw) (h : GraceFlawed bang (length_at_place lengthy (length s)) following flaw).
+        stuck_later before s f.part following flaw (longest_of part_reader s (f.part, following) f.at)
+        (rw f.has at h) in
         rw placed (record {
-          left = sym (left_some part_reader s (f.part, behind) f.at) ∙ stage.left;
+          left = sym (left_some part_reader s (f.part, following) f.at) ∙ stage.left;
           flaw = λ flaw h. stage.flaw flaw (later flaw h);
           within = omega (arith, stage.within, part_less);
           small = place_small lengthy (length w) (length s) stage.within;
-          behind = place_behind lengthy (length behind) (length s) (omega (arith, part_less));
+          following = place_after lengthy (length following) (length s) (omega (arith, part_less));
         })
 
     -- the body
     pub body-next : (out : List GraceChord) {new total : List GraceChord}
         → new ≡ out ++ body → out ++ body_inside bang s ≡ total
-        → new ++ body_inside bang behind ≡ total
+        → new ++ body_inside bang following ≡ total
     body-next out push so_far =
-        rw (push, append_assoc, f.gives) (rw (walk-some part_reader s (f.part, behind) f.at) at so_far)
+        rw (push, append_assoc, f.gives) (rw (walk-some part_reader s (f.part, following) f.at) at so_far)
 
   pub body-end : {out total : List GraceChord} (s : List ℕ)
       → grace_part_at bang s ≡ None → out ++ body_inside bang s ≡ total → out ≡ total
@@ -237,7 +239,7 @@ module _ (bang : Bool) where
     group-stuck {flaw} some none is within = (
       rw (sym stage.left, left_none part_reader rest none) (ne_eqb (length rest) 0 some),
       stage.flaw flaw (stuck_at before rest flaw none is),
-      flaw_small before flaw.left (length rest) (length w) stage.small stage.behind stage.within within,
+      flaw_small before flaw.left (length rest) (length w) stage.small stage.following stage.within within,
     )
 
     pub group-ends : length rest ≡ 0 → is_done (walk (grace_part_at bang) w) ≡ true
@@ -246,19 +248,19 @@ module _ (bang : Bool) where
 
   -- ---- a found brace closes good parts
   pub record ClosedGroup (text c : List ℕ) : Type 0 where
-    pub front : List ℕ
+    pub prefix : List ℕ
     pub rest : List ℕ
     pub parts : List GracePart
     pub is : c ≡ 125 ∷ rest
-    pub cut : text ≡ front ++ c
-    pub good : GraceParts bang front parts
+    pub cut : text ≡ prefix ++ c
+    pub good : GraceParts bang prefix parts
 
   here-closes : (text c : List ℕ) → brace_here text ≡ Some c → ClosedGroup text c
   here-closes [] c e = absurd cc
   here-closes (b ∷ s) c e =
       let found = cond_some _ _ _ e in
       record {
-        front = [];
+        prefix = [];
         rest = s;
         parts = [];
         is = sym found.1 ∙ ap (λ x. x ∷ s) (eqb-true b 125 found.0);
@@ -287,7 +289,7 @@ module _ (bang : Bool) where
       let lone = single_at u (lone_inside, k.before) (lone_at bang k.before (not-true bang p.1) k.names) in
       let longest = longest_of part_reader u (single lone_inside, k.before) lone in
       record {
-        front = u;
+        prefix = u;
         rest = k.rest;
         parts = single lone_inside ∷ (walk (grace_part_at bang) k.before).0;
         is = k.is;
@@ -301,7 +303,7 @@ module _ (bang : Bool) where
       let p = and_parts _ _ h in let first = first_close 125 (drop n text) p.0 in
       let good = good_parts (take n text) p.1 in
       record {
-        front = take n text;
+        prefix = take n text;
         rest = first.0;
         parts = _;
         is = first.1;
@@ -324,42 +326,42 @@ module _ (bang : Bool) where
 
   pub brace_within : (text c : List ℕ) → brace_at bang text ≡ Some c → length c ≤ length text
   brace_within text c found =
-      let k = brace_at-closes text c found in omega (arith, ap length k.cut, length-append k.front c)
+      let k = brace_at-closes text c found in omega (arith, ap length k.cut, length-append k.prefix c)
 
-  closes_so : (text d : List ℕ) (k : ClosedGroup text d) → closes_at bang text (length k.front) ≡ true
+  closes_so : (text d : List ℕ) (k : ClosedGroup text d) → closes_at bang text (length k.prefix) ≡ true
   closes_so text d k =
-      let read = walk_of_parts part_reader k.front k.parts k.good in
-      rw (k.cut, k.is, drop-append_seam k.front (125 ∷ k.rest), take-append_seam k.front (125 ∷ k.rest), read) refl
+      let read = walk_of_parts part_reader k.prefix k.parts k.good in
+      rw (k.cut, k.is, drop-append_seam k.prefix (125 ∷ k.rest), take-append_seam k.prefix (125 ∷ k.rest), read) refl
 
   abbrev AtLast : List ℕ → Option (List ℕ) → Type 0
   AtLast d r = (c : List ℕ) × (r ≡ Some c) × (length c ≤ length d)
 
   found_reaches : (text d : List ℕ) (k : ClosedGroup text d) (n : ℕ)
-      → length k.front ≤ n → AtLast d (last_closing bang text n)
+      → length k.prefix ≤ n → AtLast d (last_closing bang text n)
   found_reaches text d k zero h =
-      let none : length k.front ≡ 0 = omega (arith, h) in
+      let none : length k.prefix ≡ 0 = omega (arith, h) in
       let here = subst (λ n. closes_at bang text n ≡ true) none (closes_so text d k) in
-      (text, rw here refl, omega (arith, none, ap length k.cut, length-append k.front d))
+      (text, rw here refl, omega (arith, none, ap length k.cut, length-append k.prefix d))
   found_reaches text d k (suc n) h =
       cond_both (closes_at bang text (suc n)) (Some (drop (suc n) text)) (last_closing bang text n) (AtLast d)
       (λ e.
-      (drop (suc n) text, refl, omega (arith, h, length-drop (suc n) text, ap length k.cut, length-append k.front d)))
-      (λ e. elim (cases_lt n (length k.front)) [
+      (drop (suc n) text, refl, omega (arith, h, length-drop (suc n) text, ap length k.cut, length-append k.prefix d)))
+      (λ e. elim (cases_lt n (length k.prefix)) [
         | inr before ↦ found_reaches text d k n before
         | inl past ↦
-            (let last : length k.front ≡ suc n = omega (arith, h, past) in
+            (let last : length k.prefix ≡ suc n = omega (arith, h, past) in
             absurd (both_ways _ e (subst (λ m. closes_at bang text m ≡ true) last (closes_so text d k))))
       ])
 
   pub brace_at-last : (text d : List ℕ) → ClosedGroup text d → AtLast d (brace_at bang text)
   unfolding brace_at
   brace_at-last text d k =
-      found_reaches text d k (length text) (omega (arith, ap length k.cut, length-append k.front d))
+      found_reaches text d k (length text) (omega (arith, ap length k.cut, length-append k.prefix d))
 
   same_brace : {text c d : List ℕ} → ClosedGroup text c → ClosedGroup text d → length c ≡ length d → c ≡ d
   same_brace {text} {c} {d} k l same =
-      cut_cases k.front l.front c d (sym k.cut ∙ l.cut) (omega (arith, same)) (λ front behind. sym behind)
-      (λ b m front behind. absurd (omega (arith, same, ap length behind, length-append m c)))
+      cut_cases k.prefix l.prefix c d (sym k.cut ∙ l.cut) (omega (arith, same)) (λ prefix following. sym following)
+      (λ b m prefix following. absurd (omega (arith, same, ap length following, length-append m c)))
 
   -- the last of the braces that are more than `least` bytes from the end
   record GivesLast (text : List ℕ) (least : ℕ) (r : Option (List ℕ)) : Type 0 where
@@ -393,13 +395,13 @@ module _ (bang : Bool) where
       let there = cut ∙ ap (λ s. s ++ d) l.stands.cut ∙ part_append part v d in
       absurd (none_of part_reader text none part (v ++ d) (record { good = l.stands.good; cut = there }))
 
-  front_none : (text d : List ℕ) → grace_part_at bang text ≡ None → ClosedGroup text d → text ≡ d
-  front_none text d none k = nothing_before k.front d text k.parts k.good k.cut none
+  prefix_none : (text d : List ℕ) → grace_part_at bang text ≡ None → ClosedGroup text d → text ≡ d
+  prefix_none text d none k = nothing_before k.prefix d text k.parts k.good k.cut none
 
   pub brace-none : (text : List ℕ) → grace_part_at bang text ≡ None → brace_at bang text ≡ brace_here text
   brace-none text none = last_is text (brace_here text) (record {
     closes = here-closes text;
-    reaches = λ d k some. (d, ap brace_here (front_none text d none k ∙ k.is) ∙ ap Some (sym k.is), omega arith);
+    reaches = λ d k some. (d, ap brace_here (prefix_none text d none k ∙ k.is) ∙ ap Some (sym k.is), omega arith);
   })
 
   -- the parts before a brace begin with the first part of the text, if that part ends before the brace
@@ -416,22 +418,22 @@ module _ (bang : Bool) where
       ((part, v), more, longest_is part_reader u part v l, others)
 
   module _ (text : List ℕ) (z : GracePart × List ℕ) (e : grace_part_at bang text ≡ Some z) where
-    first_part : (d : List ℕ) (k : ClosedGroup text d) → FirstPart k.front
-    first_part d k = first_of_parts k.front d k.rest k.parts z k.good k.is (ap (grace_part_at bang) (sym k.cut) ∙ e)
+    first_part : (d : List ℕ) (k : ClosedGroup text d) → FirstPart k.prefix
+    first_part d k = first_of_parts k.prefix d k.rest k.parts z k.good k.is (ap (grace_part_at bang) (sym k.cut) ∙ e)
 
-    behind_closes : (d : List ℕ) → ClosedGroup text d → length d ≤ length z.1 → ClosedGroup z.1 d
-    behind_closes d k short =
-        let a = read_cut part_reader part_local k.front d z (ap (grace_part_at bang) (sym k.cut) ∙ e) short in
-        let f = first_part d k in let same = some_pair_parts f.0.0 z.0 f.0.1 a.front (sym f.2 ∙ a.at_cut) in
+    after_closes : (d : List ℕ) → ClosedGroup text d → length d ≤ length z.1 → ClosedGroup z.1 d
+    after_closes d k short =
+        let a = read_cut part_reader part_local k.prefix d z (ap (grace_part_at bang) (sym k.cut) ∙ e) short in
+        let f = first_part d k in let same = some_pair_parts f.0.0 z.0 f.0.1 a.prefix (sym f.2 ∙ a.at_cut) in
         let good = subst (λ (x : List ℕ). GraceParts bang x f.1) same.1 f.3 in
-        record { front = a.front; rest = k.rest; parts = f.1; is = k.is; cut = a.behind; good = good }
+        record { prefix = a.prefix; rest = k.rest; parts = f.1; is = k.is; cut = a.following; good = good }
 
     then-closes : (c : List ℕ) → ClosedGroup z.1 c → ClosedGroup text c
     then-closes c k =
-        let u = grace_part_then z.0 k.front in
-        let joined = joined_cut part_reader part_local text c k.front z e k.cut in
-        let good = then_part u z.0 k.front k.parts (longest_of part_reader u (z.0, k.front) joined.1) k.good in
-        record { front = u; rest = k.rest; parts = z.0 ∷ k.parts; is = k.is; cut = joined.0; good = good }
+        let u = grace_part_then z.0 k.prefix in
+        let joined = joined_cut part_reader part_local text c k.prefix z e k.cut in
+        let good = then_part u z.0 k.prefix k.parts (longest_of part_reader u (z.0, k.prefix) joined.1) k.good in
+        record { prefix = u; rest = k.rest; parts = z.0 ∷ k.parts; is = k.is; cut = joined.0; good = good }
 
     or_closes : (c : List ℕ) (later x : Option (List ℕ))
         → GivesLast text (length z.1) x → brace_at bang z.1 ≡ later → later_or later x ≡ Some c
@@ -449,7 +451,7 @@ module _ (bang : Bool) where
     brace-some x k = last_is text (later_or (brace_at bang z.1) x) (record {
       closes = λ c found. or_closes c (brace_at bang z.1) x k refl found;
       reaches = λ d other some. elim (cases_lt (length z.1) (length d)) [
-        | inr before ↦ (let o = brace_at-last z.1 d (behind_closes d other before) in (o.0, rw o.1 refl, o.2))
+        | inr before ↦ (let o = brace_at-last z.1 d (after_closes d other before) in (o.0, rw o.1 refl, o.2))
         | inl past ↦ or_past d (brace_at bang z.1) x refl past (k.reaches d other past)
       ];
     })
@@ -493,11 +495,11 @@ module _ (bang : Bool) where
       → grace_part_at bang text ≡ Some (part_with (single f) rest) → ClosedGroup text d
       → length rest < length d → brace_in_name bang text ≡ Some d
   cross_single text d f rest e k short =
-      let stands = stands_at part_reader text (single f, rest) e in let line = k.cut ∙ ap (λ x. k.front ++ x) k.is in
-      let c = crossing bang 125 f k.front k.rest rest refl refl stands.good (sym line ∙ stands.cut)
+      let stands = stands_at part_reader text (single f, rest) e in let line = k.cut ∙ ap (λ x. k.prefix ++ x) k.is in
+      let c = crossing bang 125 f k.prefix k.rest rest refl refl stands.good (sym line ∙ stands.cut)
       (omega (arith, short, ap length k.is)) in
       let first = first_part text (single f, rest) e d k in
-      let lone = single_at k.front (lone_inside, c.before) c.lone in
+      let lone = single_at k.prefix (lone_inside, c.before) c.lone in
       let same = some_pair_parts first.0.0 (single lone_inside) first.0.1 c.before (sym first.2 ∙ lone) in
       let group = subst (λ (x : List ℕ). GraceParts bang x first.1) same.1 first.3 in
       ap (brace_in_name bang) (line ∙ c.spelled)
@@ -515,10 +517,10 @@ module _ (bang : Bool) where
   brace_inside f rest d good k short = elim (cases_lt (length d) (length (tail_of f rest))) [
     | inr far ↦ far
     | inl near ↦ absurd (
-        cut_cases k.front (91 ∷ f.inside) d (tail_of f rest) (sym k.cut) (omega (arith, near))
-        (λ front behind. omega (arith, near, ap length behind))
-        (λ b m front behind.
-        let past = rest_same behind ∙ ap (λ x. m ++ x) k.is in
+        cut_cases k.prefix (91 ∷ f.inside) d (tail_of f rest) (sym k.cut) (omega (arith, near))
+        (λ prefix following. omega (arith, near, ap length following))
+        (λ b m prefix following.
+        let past = rest_same following ∙ ap (λ x. m ++ x) k.is in
         length_past 125 f.length rest m k.rest refl good.length past (omega (arith, short, ap length k.is))))
   ]
 
@@ -527,14 +529,14 @@ module _ (bang : Bool) where
       → AtLast d (option_map (λ b. b ++ tail_of f rest) (brace_at bang (91 ∷ f.inside)))
   chord_reaches f rest d good k short =
       let tail = tail_of f rest in
-      cut_cases (91 ∷ f.inside) k.front tail d k.cut (brace_inside f rest d good k short)
-      (λ front behind. absurd (omega (arith, first_same (sym k.is ∙ behind))))
-      (λ b m front behind.
-      let is = ap (λ x. x ∷ m) (first_same (sym behind ∙ k.is)) in
+      cut_cases (91 ∷ f.inside) k.prefix tail d k.cut (brace_inside f rest d good k short)
+      (λ prefix following. absurd (omega (arith, first_same (sym k.is ∙ following))))
+      (λ b m prefix following.
+      let is = ap (λ x. x ∷ m) (first_same (sym following ∙ k.is)) in
       let o = brace_at-last (91 ∷ f.inside) (b ∷ m)
-      (record { front = k.front; rest = m; parts = k.parts; is = is; cut = front; good = k.good }) in
+      (record { prefix = k.prefix; rest = m; parts = k.parts; is = is; cut = prefix; good = k.good }) in
       let found = ap (option_map (λ (b : List ℕ). b ++ tail)) o.1 in
-      (o.0 ++ tail, found, omega (arith, o.2, ap length behind, length-append m tail, length-append o.0 tail)))
+      (o.0 ++ tail, found, omega (arith, o.2, ap length following, length-append m tail, length-append o.0 tail)))
 
   chord_closes : (f : ChordForm) (rest c : List ℕ)
       → option_map (λ b. b ++ tail_of f rest) (brace_at bang (91 ∷ f.inside)) ≡ Some c
@@ -543,11 +545,11 @@ module _ (bang : Bool) where
       let tail = tail_of f rest in let m = read_from (λ b. b ++ tail) (brace_at bang (91 ∷ f.inside)) c (sym e) in
       let k = brace_at-closes (91 ∷ f.inside) m.0 m.1 in
       record {
-        front = k.front;
+        prefix = k.prefix;
         rest = k.rest ++ tail;
         parts = k.parts;
         is = m.2 ∙ ap (λ (x : List ℕ). x ++ tail) k.is;
-        cut = ap (λ (x : List ℕ). x ++ tail) k.cut ∙ append_assoc k.front m.0 tail ∙ ap (λ x. k.front ++ x) (sym m.2);
+        cut = ap (λ (x : List ℕ). x ++ tail) k.cut ∙ append_assoc k.prefix m.0 tail ∙ ap (λ x. k.prefix ++ x) (sym m.2);
         good = k.good;
       }
 
@@ -589,17 +591,17 @@ module _ (bang : Bool) where
 
   pub chord-some : (w c : List ℕ) → bracket_at bang w ≡ Some c →
       brace_in_chord bang w
-      ≡ later_or (brace_behind bang c) (option_map (λ b. b ++ c) (brace_in_chord bang (take (length w - length c) w)))
+      ≡ later_or (brace_after bang c) (option_map (λ b. b ++ c) (brace_in_chord bang (take (length w - length c) w)))
   unfolding brace_in_chord
   chord-some w [] e = absurd (let k = bracket_at-closes bang w [] e in omega (arith, ap length k.is))
   chord-some w (b ∷ c) e =
       let k = bracket_at-closes bang w (b ∷ c) e in let inside = take (length w - length (b ∷ c)) w in
-      let front : inside ≡ k.front = cut_off w k.front (b ∷ c) k.cut in
+      let prefix : inside ≡ k.prefix = cut_off w k.prefix (b ∷ c) k.cut in
       let at = at_bracket w ∙ ap (option_map chorded_read) (read_form w c b e) in
       let tail : drop (length inside) w ≡ b ∷ c =
-      ap (λ (t : List ℕ). drop (length t) w) front
-      ∙ ap (drop (length k.front)) k.cut
-      ∙ drop-append_seam k.front (b ∷ c) in
+      ap (λ (t : List ℕ). drop (length t) w) prefix
+      ∙ ap (drop (length k.prefix)) k.cut
+      ∙ drop-append_seam k.prefix (b ∷ c) in
       brace-part (91 ∷ w) (length_from c).1 (chorded (form_of inside c)) at
       ∙ ap (λ (t : List ℕ).
       later_or (brace_at bang (length_from c).1) (option_map (λ (x : List ℕ). x ++ t) (brace_at bang (91 ∷ inside))))
@@ -642,14 +644,14 @@ module _ (bang : Bool) where
   nothing_past : (u t d : List ℕ) (ps : List GracePart)
       → GraceParts bang u ps → has_lone_part ps ≡ false → ClosedGroup (u ++ (125 ∷ t)) d
       → length (125 ∷ t) ≤ length d
-  nothing_past _ t d _ no_part whole k = omega (arith, ap length (front_none (125 ∷ t) d (at_brace t) k))
+  nothing_past _ t d _ no_part whole k = omega (arith, ap length (prefix_none (125 ∷ t) d (at_brace t) k))
   nothing_past _ t d _ (then_part u part v more l others) whole k =
       let w = or_parts (lone_part_is part) (has_lone_part more) whole in
       elim (read_on part_reader part_local part u v (125 ∷ t) l) [
         | inr past ↦ absurd (part_past part u v t past.0 w.0 l.stands (longest_is part_reader u part v l) past.1 past.2)
         | inl on ↦ elim (cases_lt (length (v ++ (125 ∷ t))) (length d)) [
           | inr before ↦
-              nothing_past v t d more others w.1 (behind_closes (u ++ (125 ∷ t)) (part, v ++ (125 ∷ t)) on d k before)
+              nothing_past v t d more others w.1 (after_closes (u ++ (125 ∷ t)) (part, v ++ (125 ∷ t)) on d k before)
           | inl far ↦ omega (arith, far, length-append v (125 ∷ t))
         ]
       ]
@@ -673,10 +675,10 @@ module _ (bang : Bool) where
   grace_from-takes slash s t (Some []) has e = tt
   grace_from-takes slash s t (Some (b ∷ c)) has e =
       let k = brace_at-closes t (b ∷ c) e in
-      let whole : t ≡ k.front ++ (125 ∷ c) = k.cut ∙ ap (λ x. k.front ++ (x ∷ c)) (first_same k.is) in
+      let whole : t ≡ k.prefix ++ (125 ∷ c) = k.cut ∙ ap (λ x. k.prefix ++ (x ∷ c)) (first_same k.is) in
       let read = λ (h : slash ≡ false).
-      first_of is_slash_byte k.front (125 ∷ c) (ap (begins is_slash_byte) (sym whole) ∙ has.is_read h) in
-      rw (cut_off t k.front (b ∷ c) k.cut, walk_of_parts part_reader k.front k.parts k.good)
+      first_of is_slash_byte k.prefix (125 ∷ c) (ap (begins is_slash_byte) (sym whole) ∙ has.is_read h) in
+      rw (cut_off t k.prefix (b ∷ c) k.cut, walk_of_parts part_reader k.prefix k.parts k.good)
       (record { parts = k.good; slash_is_read = read }, has.cut ∙ ap (maybe slash 47) whole)
 
   pub grace_at-takes : (s : List ℕ) → TakesGrace s (grace_at bang s)
@@ -701,7 +703,7 @@ module _ (bang : Bool) where
 
   group_there : (f : GraceForm) (x : List ℕ) → IsGrace bang f → ClosedGroup (f.inside ++ (125 ∷ x)) (125 ∷ x)
   group_there f x good =
-      record { front = f.inside; rest = x; parts = f.parts; is = refl; cut = refl; good = good.parts }
+      record { prefix = f.inside; rest = x; parts = f.parts; is = refl; cut = refl; good = good.parts }
 
   grace_there : (f : GraceForm) (x c : List ℕ)
       → IsGrace bang f → brace_at bang (f.inside ++ (125 ∷ x)) ≡ Some c → length c ≡ length (125 ∷ x)
@@ -748,15 +750,15 @@ module _ (bang : Bool) where
   pub seeking-begins : (text : List ℕ) → SeekingBrace text None text
   seeking-begins text = record { found = later_none (brace_at bang text); within = omega arith }
 
-  pub seeking-next : {text rest : List ℕ} {last next : Option (List ℕ)} (behind : List ℕ) (part : GracePart)
+  pub seeking-next : {text rest : List ℕ} {last next : Option (List ℕ)} (following : List ℕ) (part : GracePart)
       → SeekingBrace text last rest
-      → grace_part_at bang rest ≡ Some (part_with part behind) → next ≡ later_or (brace_in_part bang part rest) last
-      → SeekingBrace text next behind
-  seeking-next {text} {rest} {last} behind part stage e later =
-      let found = ap (λ r. later_or r last) (sym (brace-part rest behind part e)) ∙ stage.found in
+      → grace_part_at bang rest ≡ Some (part_with part following) → next ≡ later_or (brace_in_part bang part rest) last
+      → SeekingBrace text next following
+  seeking-next {text} {rest} {last} following part stage e later =
+      let found = ap (λ r. later_or r last) (sym (brace-part rest following part e)) ∙ stage.found in
       rw later (record {
-        found = sym (later_assoc (brace_at bang behind) (brace_in_part bang part rest) last) ∙ found;
-        within = omega (arith, less part_reader rest (part, behind) e, stage.within);
+        found = sym (later_assoc (brace_at bang following) (brace_in_part bang part rest) last) ∙ found;
+        within = omega (arith, less part_reader rest (part, following) e, stage.within);
       })
 
   pub seeking-ends : {text rest : List ℕ} {last : Option (List ℕ)}

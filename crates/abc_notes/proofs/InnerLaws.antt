@@ -45,8 +45,8 @@ length-sign_then _ x = omega arith
 
 pub note-longer : (f : NoteForm) (x : List ℕ) → length x < length (note_then f x)
 note-longer f x =
-    let y = length_then f.length x in let behind = letter_byte f.low f.letter ∷ (f.marks ++ y) in
-    omega (arith, length-sign_then f.sign behind, length-append f.marks y, length-length_then f.length x)
+    let y = length_then f.length x in let following = letter_byte f.low f.letter ∷ (f.marks ++ y) in
+    omega (arith, length-sign_then f.sign following, length-append f.marks y, length-length_then f.length x)
 
 pub inner-longer : (f : Inner) (x : List ℕ) → length x < length (inner_then f x)
 inner-longer (note_inside f) x = note-longer f x
@@ -58,21 +58,21 @@ abbrev pub inner_pair : Inner → List ℕ → Inner × List ℕ
 inner_pair f x = (f, x)
 
 -- a head that a tie may still reach is tied if one does
-heads-behind : (head : Head) (len : Len) (t : Bool) (more : List Sense) →
+heads-following : (head : Head) (len : Len) (t : Bool) (more : List Sense) →
     heads_after (Some (tied_if t head, len)) more ≡ (tied_if (t || is_tied more) head, len) ∷ heads_of more
-heads-behind head len true [] = refl
-heads-behind head len false [] = refl
-heads-behind head len true (says_note other l ∷ more) =
-    ap (λ hs. (tied_if true head, len) ∷ hs) (heads-behind other l false more)
-heads-behind head len false (says_note other l ∷ more) =
-    ap (λ hs. (tied_if false head, len) ∷ hs) (heads-behind other l false more)
-heads-behind head len true (says_tie ∷ more) = heads-behind head len true more
-heads-behind head len false (says_tie ∷ more) = heads-behind head len true more
-heads-behind head len t (_ ∷ more) = heads-behind head len t more
+heads-following head len true [] = refl
+heads-following head len false [] = refl
+heads-following head len true (says_note other l ∷ more) =
+    ap (λ hs. (tied_if true head, len) ∷ hs) (heads-following other l false more)
+heads-following head len false (says_note other l ∷ more) =
+    ap (λ hs. (tied_if false head, len) ∷ hs) (heads-following other l false more)
+heads-following head len true (says_tie ∷ more) = heads-following head len true more
+heads-following head len false (says_tie ∷ more) = heads-following head len true more
+heads-following head len t (_ ∷ more) = heads-following head len t more
 
 pub heads-are : (more : List Sense) → heads_after None more ≡ heads_of more
 heads-are [] = refl
-heads-are (says_note head len ∷ more) = heads-behind head len false more
+heads-are (says_note head len ∷ more) = heads-following head len false more
 heads-are (_ ∷ more) = heads-are more
 
 pub heads_in-cons : (item : Sense) (more : List Sense) → heads_in (item ∷ more) ≡ plain_head item ++ heads_in more
@@ -110,14 +110,14 @@ module _ (bang : Bool) where
   abbrev given : Inner × List ℕ → Sense × List ℕ
   given z = sensed (sense z.0) z.1
 
-  pub record FoundInner (s : List ℕ) (item : Sense) (behind : List ℕ) : Type 0 where
+  pub record FoundInner (s : List ℕ) (item : Sense) (following : List ℕ) : Type 0 where
     pub part : Inner
-    pub at : inner_at bang s ≡ Some (inner_pair part behind)
+    pub at : inner_at bang s ≡ Some (inner_pair part following)
     pub says : item ≡ sense part
 
-  pub found_inner : (s : List ℕ) {item : Sense} {behind : List ℕ}
-      → Some (sensed item behind) ≡ option_map given (inner_at bang s)
-      → FoundInner s item behind
+  pub found_inner : (s : List ℕ) {item : Sense} {following : List ℕ}
+      → Some (sensed item following) ≡ option_map given (inner_at bang s)
+      → FoundInner s item following
   found_inner s h =
       let o = read_from given (inner_at bang s) _ h in
       record {
@@ -137,20 +137,20 @@ module _ (bang : Bool) where
     pub within : length rest ≤ length w
     pub small : at_most (length w) before
 
-  module _ {s : List ℕ} {item : Sense} {behind : List ℕ} (f : FoundInner s item behind) where
-    pub inner_less : length behind < length s
-    inner_less = less inner_reader s (f.part, behind) f.at
+  module _ {s : List ℕ} {item : Sense} {following : List ℕ} (f : FoundInner s item following) where
+    pub inner_less : length following < length s
+    inner_less = less inner_reader s (f.part, following) f.at
 
     pub inside-next : {w : List ℕ} {head new note : Bool} {before place : Option ℕ}
         → Inside w head before s → note ≡ is_inner_note item
-        → new ≡ (head || note) → place ≡ length_at_place note (length s) → Inside w new place behind
+        → new ≡ (head || note) → place ≡ length_at_place note (length s) → Inside w new place following
     inside-next {w} {head} {new} {note} {before} stage noted newly placed =
-        let step = walk-some inner_reader s (f.part, behind) f.at in
+        let step = walk-some inner_reader s (f.part, following) f.at in
         let is : note ≡ has_length f.part = noted ∙ ap is_inner_note f.says in
-        let later = λ (flaw : Flaw) (h : InnerFlawed bang (length_at_place note (length s)) behind flaw).
-        stuck_later before s f.part behind flaw (longest_of inner_reader s (f.part, behind) f.at) (rw is at h) in
+        let later = λ (flaw : Flaw) (h : InnerFlawed bang (length_at_place note (length s)) following flaw).
+        stuck_later before s f.part following flaw (longest_of inner_reader s (f.part, following) f.at) (rw is at h) in
         rw (placed, newly) (record {
-          left = sym (left_some inner_reader s (f.part, behind) f.at) ∙ stage.left;
+          left = sym (left_some inner_reader s (f.part, following) f.at) ∙ stage.left;
           heads =
               or_assoc head note _
               ∙ rw is (sym (ap (λ (z : List Inner × List ℕ). head || has_inner_head z.0) step))
@@ -161,23 +161,23 @@ module _ (bang : Bool) where
         })
 
     -- ---- the meaning of the inside
-    pub senses-some : senses bang s ≡ item ∷ senses bang behind
-    senses-some = rw (walk-some inner_reader s (f.part, behind) f.at, f.says) refl
+    pub senses-some : senses bang s ≡ item ∷ senses bang following
+    senses-some = rw (walk-some inner_reader s (f.part, following) f.at, f.says) refl
 
     pub heads-next : (out : List (Head × Len)) (last : Option (Head × Len)) {new total : List (Head × Len)}
         {next : Option (Head × Len)}
         → new ≡ out ++ given_head last item → next ≡ next_last last item
         → out ++ heads_after last (senses bang s) ≡ total
-        → new ++ heads_after next (senses bang behind) ≡ total
+        → new ++ heads_after next (senses bang following) ≡ total
     heads-next out last push is so_far = rw (push, is, append_assoc) (rw senses-some at so_far)
 
     -- parts that each add what they mean
     pub said-next : {X : Type 0} (gives : List Sense → List X) (one : Sense → List X) →
         ((item : Sense) (more : List Sense) → gives (item ∷ more) ≡ one item ++ gives more)
         → (out : List X) {new total : List X}
-        → new ≡ out ++ one item → out ++ gives (senses bang s) ≡ total → new ++ gives (senses bang behind) ≡ total
+        → new ≡ out ++ one item → out ++ gives (senses bang s) ≡ total → new ++ gives (senses bang following) ≡ total
     said-next gives one cons out push so_far =
-        rw (push, append_assoc) (rw (senses-some, cons item (senses bang behind)) at so_far)
+        rw (push, append_assoc) (rw (senses-some, cons item (senses bang following)) at so_far)
 
   pub senses-none : (s : List ℕ) → inner_at bang s ≡ None → senses bang s ≡ []
   senses-none s none = rw (walk-none inner_reader s none) refl

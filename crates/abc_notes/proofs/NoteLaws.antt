@@ -8,7 +8,7 @@ use Rattle.abc_notes.specs.Lengths.{LengthForm, whole, over, halved, length_then
 use Rattle.abc_notes.specs.Lengths.{AreNumberDigits}
 use Rattle.abc_notes.specs.Notes.{NoteForm, sign_then}
 use Rattle.abc_notes.specs.Notes.{letter_byte, note_then, IsNote, sign_at, upper_at, lower_at, either_letter, letter_at}
-use Rattle.abc_notes.specs.Notes.{note_from, note_behind}
+use Rattle.abc_notes.specs.Notes.{note_from, note_after}
 use Rattle.abc_notes.specs.{Notes.note_at, Runs.{skip, span_all, begins, is_mark}}
 use Rattle.abc_notes.proofs.Bounds.{digit_range}
 use Rattle.abc_notes.proofs.RunLaws.{skip-takes, begins_wider}
@@ -104,20 +104,20 @@ from-takes : (s : List ℕ) (sign : Option Alter) (b : ℕ) (rest : List ℕ) (l
 from-takes s sign b rest None e is = tt
 from-takes s sign b rest (Some l) e is =
     let marks = span_all is_mark rest in let len = length_from marks.1 in let p = length_at-takes marks.1 in
-    let behind : rest ≡ marks.0 ++ length_then len.0 len.1 =
+    let following : rest ≡ marks.0 ++ length_then len.0 len.1 =
     span_all-takes is_mark rest ∙ ap (λ t. marks.0 ++ t) p.0 in (
-      e ∙ ap (λ t. sign_then sign (t ∷ rest)) is ∙ ap (λ t. sign_then sign (letter_byte l.0 l.1 ∷ t)) behind,
+      e ∙ ap (λ t. sign_then sign (t ∷ rest)) is ∙ ap (λ t. sign_then sign (letter_byte l.0 l.1 ∷ t)) following,
       record { marks = span_all-pass is_mark rest; length = p.1 },
     )
 
-behind-takes : (s : List ℕ) (sign : Option Alter) (rest : List ℕ)
-    → s ≡ sign_then sign rest → TakesNote s (note_behind sign rest)
-behind-takes s sign [] e = tt
-behind-takes s sign (b ∷ rest) e = from-takes s sign b rest (letter_at b) e (letter_at-takes b)
+following-takes : (s : List ℕ) (sign : Option Alter) (rest : List ℕ)
+    → s ≡ sign_then sign rest → TakesNote s (note_after sign rest)
+following-takes s sign [] e = tt
+following-takes s sign (b ∷ rest) e = from-takes s sign b rest (letter_at b) e (letter_at-takes b)
 
 pub note_at-takes : (s : List ℕ) → TakesNote s (note_at s)
 unfolding note_at
-note_at-takes s = behind-takes s (sign_at s).0 (sign_at s).1 (sign_at-takes s)
+note_at-takes s = following-takes s (sign_at s).0 (sign_at s).1 (sign_at-takes s)
 
 -- the bytes that continue a note
 abbrev pub note_goes_on : ℕ → Bool

@@ -45,8 +45,8 @@ module _ {I : Type 0} {Stands : I → List ℕ → List ℕ → Type 0} {at : Li
   pub longest_of : (s : List ℕ) (z : I × List ℕ) → at s ≡ Some z → IsLongest I Stands s z.0 z.1
   longest_of s z e = record {
     stands = stands_at s z e;
-    longest = λ other behind stands.
-        let o = r.reaches other s behind stands in let same : z ≡ o.0 = same_Some z o.0 (sym e ∙ o.1) in
+    longest = λ other following stands.
+        let o = r.reaches other s following stands in let same : z ≡ o.0 = same_Some z o.0 (sym e ∙ o.1) in
         elim o.2 [ inl shorter ↦ rw same (omega (arith, shorter)) | inr equal ↦ rw (same, equal) (omega arith) ];
   }
 

@@ -90,22 +90,23 @@ abbrev pub GraceLeads : Bool → List ℕ → List GracePart → List ℕ → Ty
 GraceLeads bang text parts rest = LeadsByParts GracePart (StandsInGrace bang) text parts rest
 
 -- the slash after an opening brace, if there is one
-pub record HasSlash (text : List ℕ) (slash : Bool) (behind : List ℕ) : Type 0 where
-  pub cut : text ≡ maybe slash (code "/") behind
-  pub is_read : slash ≡ false → begins is_slash_byte behind ≡ false
+pub record HasSlash (text : List ℕ) (slash : Bool) (following : List ℕ) : Type 0 where
+  pub cut : text ≡ maybe slash (code "/") following
+  pub is_read : slash ≡ false → begins is_slash_byte following ≡ false
 
 -- the fault after an opening brace, where there is no grace group: no closing brace follows, or only parts follow up
 -- to the end; or the first fault of the parts, which stop at another byte
 pub data GraceFault (bang : Bool) : List ℕ → Flaw → Type 0 where
   grace_unclosed : (text : List ℕ)
       → list_all is_in_grace text ≡ true → GraceFault bang text (record { kind = Unclosed; left = suc (length text) })
-  grace_open : (text : List ℕ) (slash : Bool) (behind : List ℕ) (parts : List GracePart)
-      → HasSlash text slash behind → GraceLeads bang behind parts []
+  grace_open : (text : List ℕ) (slash : Bool) (following : List ℕ) (parts : List GracePart)
+      → HasSlash text slash following → GraceLeads bang following parts []
       → GraceFault bang text (record { kind = Unclosed; left = suc (length text) })
-  grace_flawed : (text : List ℕ) (slash : Bool) (behind : List ℕ) (parts : List GracePart) (byte : ℕ) (rest : List ℕ)
+  grace_flawed : (text : List ℕ) (slash : Bool) (following : List ℕ) (parts : List GracePart) (byte : ℕ) (rest : List ℕ)
       (flaw : Flaw)
-      → list_all is_in_grace text ≡ false → HasSlash text slash behind
-      → GraceLeads bang behind parts (byte ∷ rest) → (byte == code "}") ≡ false → GraceFlawed bang None behind flaw
+      → list_all is_in_grace text ≡ false → HasSlash text slash following
+      → GraceLeads bang following parts (byte ∷ rest) → (byte == code "}") ≡ false
+      → GraceFlawed bang None following flaw
       → GraceFault bang text flaw
 
 -- ---- reading: a link between these and the code
@@ -162,22 +163,22 @@ unfoldable pub brace_in_chord : Bool → List ℕ → Option (List ℕ)
 brace_in_chord bang inside = brace_at bang (code "[" ∷ inside)
 
 -- after a chord, which is given from its closing bracket on
-abbrev pub brace_behind : Bool → List ℕ → Option (List ℕ)
-brace_behind bang [] = None
-brace_behind bang (bracket ∷ rest) = brace_at bang (length_from rest).1
+abbrev pub brace_after : Bool → List ℕ → Option (List ℕ)
+brace_after bang [] = None
+brace_after bang (bracket ∷ rest) = brace_at bang (length_from rest).1
 
 -- after the chord that ends at the bracket, up to the closing byte of a longer one
 abbrev pub brace_between : Bool → Option (List ℕ) → Option (List ℕ) → Option (List ℕ)
 brace_between bang bracket None = None
 brace_between bang None (Some closing) = None
 brace_between bang (Some bracket) (Some closing) =
-    option_map (λ brace. brace ++ closing) (brace_behind bang (take (length bracket - length closing) bracket))
+    option_map (λ brace. brace ++ closing) (brace_after bang (take (length bracket - length closing) bracket))
 
 -- the closing byte comes after the bracket
-abbrev pub stands_behind : Option (List ℕ) → Option (List ℕ) → Type 0
-stands_behind bracket None = Unit {0}
-stands_behind None (Some closing) = Unit {0}
-stands_behind (Some bracket) (Some closing) = bracket ≡ take (length bracket - length closing) bracket ++ closing
+abbrev pub stands_after : Option (List ℕ) → Option (List ℕ) → Type 0
+stands_after bracket None = Unit {0}
+stands_after None (Some closing) = Unit {0}
+stands_after (Some bracket) (Some closing) = bracket ≡ take (length bracket - length closing) bracket ++ closing
 
 abbrev pub at_most_bytes : ℕ → Option (List ℕ) → Type 0
 at_most_bytes most None = Unit {0}

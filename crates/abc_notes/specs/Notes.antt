@@ -110,9 +110,9 @@ note_from sign (Some l) rest =
     let len = length_from marks.1 in
     Some (record { sign = sign; low = l.0; letter = l.1; marks = marks.0; length = len.0 }, len.1)
 
-abbrev pub note_behind : Option Alter → List ℕ → Option (NoteForm × List ℕ)
-note_behind sign [] = None
-note_behind sign (b ∷ rest) = note_from sign (letter_at b) rest
+abbrev pub note_after : Option Alter → List ℕ → Option (NoteForm × List ℕ)
+note_after sign [] = None
+note_after sign (b ∷ rest) = note_from sign (letter_at b) rest
 
 unfoldable pub note_at : List ℕ → Option (NoteForm × List ℕ)
-note_at s = let sign = sign_at s in note_behind sign.0 sign.1
+note_at s = let sign = sign_at s in note_after sign.0 sign.1

@@ -12,7 +12,7 @@ use Rattle.mus_units.specs.Bytes.{is_digit}
 pub record IsLongest (I : Type 0) (Stands : I → List ℕ → List ℕ → Type 0) (text : List ℕ) (part : I)
     (rest : List ℕ) : Type 0 where
   pub stands : Stands part text rest
-  pub longest : (other : I) (behind : List ℕ) → Stands other text behind → length rest ≤ length behind
+  pub longest : (other : I) (following : List ℕ) → Stands other text following → length rest ≤ length following
 
 abbrev pub HasNone : (I : Type 0) → (I → List ℕ → List ℕ → Type 0) → List ℕ → Type 0
 HasNone I Stands text = (part : I) (rest : List ℕ) → Stands part text rest → ⊥
@@ -26,8 +26,8 @@ pub data Parts (I : Type 0) (Stands : I → List ℕ → List ℕ → Type 0) : 
 -- a text begins with these parts, each as long as it can be, and the rest follows
 pub data LeadsByParts (I : Type 0) (Stands : I → List ℕ → List ℕ → Type 0) : List ℕ → List I → List ℕ → Type 0 where
   leads_here : (text : List ℕ) → LeadsByParts I Stands text [] text
-  leads_on : (text : List ℕ) (part : I) (behind : List ℕ) (more : List I) (rest : List ℕ)
-      → IsLongest I Stands text part behind → LeadsByParts I Stands behind more rest
+  leads_on : (text : List ℕ) (part : I) (following : List ℕ) (more : List I) (rest : List ℕ)
+      → IsLongest I Stands text part following → LeadsByParts I Stands following more rest
       → LeadsByParts I Stands text (part ∷ more) rest
 
 -- a digit or a slash continues a length

@@ -37,13 +37,13 @@ pub fn inside_state(bang: bool, inside: &[u8]) -> Result<bool, Flaw>
     let mut head = false;
     'parts: while let Some((byte, _)) = rest.split_first() {
         let here = rest.len();
-        let Some((item, behind)) = item_at(bang, rest) else {
+        let Some((item, following)) = item_at(bang, rest) else {
             return Err(inner_flaw(before, *byte, here));
         };
         let note = is_inner_note(item);
         head = either(head, note);
         before = place_if(note, here);
-        rest = behind;
+        rest = following;
     }
     Ok(head)
 }
@@ -119,9 +119,9 @@ pub fn read_heads(alloc: Global, bang: bool, inside: &[u8]) -> Result<Row<(Head,
     let mut heads = Row::new(alloc);
     let mut last = None;
     let mut rest = inside;
-    'parts: while let Some((item, behind)) = item_at(bang, rest) {
+    'parts: while let Some((item, following)) = item_at(bang, rest) {
         last = add_head(&mut heads, last, item)?;
-        rest = behind;
+        rest = following;
     }
     add_last(&mut heads, last)?;
     Ok(heads)
@@ -134,9 +134,9 @@ pub fn read_plain_heads(alloc: Global, bang: bool, inside: &[u8]) -> Result<Row<
 {
     let mut heads = Row::new(alloc);
     let mut rest = inside;
-    'parts: while let Some((item, behind)) = item_at(bang, rest) {
+    'parts: while let Some((item, following)) = item_at(bang, rest) {
         add_plain_head(&mut heads, item)?;
-        rest = behind;
+        rest = following;
     }
     Ok(heads)
 }
@@ -205,9 +205,9 @@ pub fn read_decos(alloc: Global, bang: bool, inside: &[u8]) -> Result<Row<Deco>,
 {
     let mut decos = Row::new(alloc);
     let mut rest = inside;
-    'parts: while let Some((item, behind)) = item_at(bang, rest) {
+    'parts: while let Some((item, following)) = item_at(bang, rest) {
         add_deco(alloc, &mut decos, item)?;
-        rest = behind;
+        rest = following;
     }
     Ok(decos)
 }
@@ -255,10 +255,10 @@ fn bracket_at(bang: bool, bytes: &[u8]) -> Option<&[u8]>
     let mut rest = bytes;
     let mut head = false;
     let mut last = None;
-    'parts: while let Some((item, behind)) = item_at(bang, rest) {
+    'parts: while let Some((item, following)) = item_at(bang, rest) {
         last = later_or(bracket_in_name(bang, head, rest), last);
         head = either(head, is_inner_note(item));
-        rest = behind;
+        rest = following;
     }
     later_or(bracket_here(head, rest), last)
 }
@@ -291,7 +291,7 @@ pub fn bracket_in_name(bang: bool, head: bool, bytes: &[u8]) -> Option<&[u8]>
     ensures { option_map (λ x. x.now) result ≡ bracket_in_name bang head bytes.now }
 {
     match bytes.split_first() {
-        Some((mark, behind)) if *mark == b'!' && !bang => bracket_in(bang, head, behind),
+        Some((mark, following)) if *mark == b'!' && !bang => bracket_in(bang, head, following),
         _ => None,
     }
 }
@@ -337,7 +337,7 @@ pub fn chord_fault(bang: bool, bytes: &[u8]) -> Flaw
             kind: FaultKind::Unclosed,
             left: bytes.len() + 1,
         },
-        Err(_) if begins_with_bracket(behind_parts(bang, bytes)) => Flaw {
+        Err(_) if begins_with_bracket(after_parts(bang, bytes)) => Flaw {
             kind: FaultKind::BadByte,
             left: bytes.len() + 1,
         },
@@ -355,13 +355,13 @@ fn begins_with_bracket(bytes: &[u8]) -> bool
 }
 
 /// Returns what is left of the line where the parts of a chord end.
-fn behind_parts(bang: bool, bytes: &[u8]) -> &[u8]
+fn after_parts(bang: bool, bytes: &[u8]) -> &[u8]
     requires { length bytes.now ≤ 2 ^ 30 }
     ensures { result.now ≡ (walk (inner_at bang) bytes.now).1 }
 {
     let mut rest = bytes;
-    'parts: while let Some((_, behind)) = item_at(bang, rest) {
-        rest = behind;
+    'parts: while let Some((_, following)) = item_at(bang, rest) {
+        rest = following;
     }
     rest
 }

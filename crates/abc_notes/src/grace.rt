@@ -3,7 +3,7 @@ ghost use Rattle.std.specs.Prelude.{option_map, map, None, Some, true, false, If
 ghost use Rattle.std.specs.List.{prefix_len};
 ghost use Rattle.abc_notes.specs.Graces.{body_of_part, body_of_sense, body_of, part_has_length, IsGraceOwn, IsPartFlaw};
 ghost use Rattle.abc_notes.specs.Graces.{GraceFlawed, GraceFault, is_in_grace, grace_part_at, brace_here, brace_in};
-ghost use Rattle.abc_notes.specs.Graces.{brace_in_name, brace_in_item, brace_in_chord, brace_between, stands_behind};
+ghost use Rattle.abc_notes.specs.Graces.{brace_in_name, brace_in_item, brace_in_chord, brace_between, stands_after};
 ghost use Rattle.abc_notes.specs.Graces.{at_most_bytes, IsItemAt, brace_at, grace_at, bodied, body_of_item};
 ghost use Rattle.abc_notes.specs.Graces.{inside_of_item, inside_of_part, item_has_length, body_inside, grace_shown};
 ghost use Rattle.abc_notes.specs.Graces.{item_within, goes_on_first};
@@ -55,11 +55,11 @@ fn grace_state(bang: bool, inside: &[u8]) -> Option<Flaw>
     let mut before = None;
     'parts: while !rest.is_empty() {
         let here = rest.len();
-        let Some((part, behind)) = grace_part_at(bang, rest) else {
+        let Some((part, following)) = grace_part_at(bang, rest) else {
             return Some(part_flaw(bang, before, rest));
         };
         before = place_if(has_length(part), here);
-        rest = behind;
+        rest = following;
     }
     None
 }
@@ -133,10 +133,10 @@ pub fn grace_at(bang: bool, bytes: &[u8]) -> Option<Grace<'_>>
         ≡ option_map (λ z. grace_shown z.0.slash (body_of z.0.parts) z.0.inside z.1) (grace_at bang bytes.now) }
     ensures within { IfSome result (λ x. length x.inside.now ≤ length bytes.now) }
 {
-    let (slash, behind) = skip(b'/', bytes);
-    let closing = brace_at(bang, behind)?;
+    let (slash, following) = skip(b'/', bytes);
+    let closing = brace_at(bang, following)?;
     let (_, rest) = closing.split_first()?;
-    let (inside, _) = behind.split_at(behind.len() - closing.len());
+    let (inside, _) = following.split_at(following.len() - closing.len());
     Some(Grace {
         slash,
         inside,
@@ -153,9 +153,9 @@ fn brace_at(bang: bool, bytes: &[u8]) -> Option<&[u8]>
 {
     let mut rest = bytes;
     let mut last = None;
-    'parts: while let Some((part, behind)) = grace_part_at(bang, rest) {
+    'parts: while let Some((part, following)) = grace_part_at(bang, rest) {
         last = later_or(brace_in_part(bang, part, rest), last);
-        rest = behind;
+        rest = following;
     }
     later_or(brace_here(rest), last)
 }
@@ -188,13 +188,13 @@ fn brace_in_chord(bang: bool, inside: &[u8]) -> Option<&[u8]>
     if braced(inside).1.is_empty() {
         None
     } else {
-        brace_behind_chords(bang, inside)
+        brace_after_chords(bang, inside)
     }
 }
 
 /// Returns the same, looking after each of the shorter chords that begin here.
 #[cycle(braces)]
-fn brace_behind_chords(bang: bool, inside: &[u8]) -> Option<&[u8]>
+fn brace_after_chords(bang: bool, inside: &[u8]) -> Option<&[u8]>
     requires small { length inside.now ≤ 2 ^ 30 }
     requires good { is_done (walk (inner_at bang) inside.now) ≡ true }
     ensures read { option_map (λ x. x.now) result ≡ brace_in_chord bang inside.now }
@@ -204,12 +204,12 @@ fn brace_behind_chords(bang: bool, inside: &[u8]) -> Option<&[u8]>
     let mut head = false;
     let mut bracket = None;
     let mut last = None;
-    'parts: while let Some((item, behind)) = item_at(bang, rest) {
+    'parts: while let Some((item, following)) = item_at(bang, rest) {
         let closing = bracket_in_name(bang, head, rest);
         last = later_or(brace_between(bang, bracket, closing), last);
         bracket = later_or(closing, bracket);
         head = either(head, is_inner_note(item));
-        rest = behind;
+        rest = following;
     }
     later_or(brace_between(bang, bracket, Some(rest)), last)
 }
@@ -223,7 +223,7 @@ fn brace_between<'a>(
     closing: Option<&'a [u8]>,
 ) -> Option<&'a [u8]>
     requires small { at_most_bytes (2 ^ 30) (option_map (λ x. x.now) bracket) }
-    requires behind { stands_behind (option_map (λ x. x.now) bracket) (option_map (λ x. x.now) closing) }
+    requires following { stands_after (option_map (λ x. x.now) bracket) (option_map (λ x. x.now) closing) }
     ensures { option_map (λ x. x.now) result
         ≡ brace_between bang (option_map (λ x. x.now) bracket.entry) (option_map (λ x. x.now) closing.entry) }
 {
@@ -235,12 +235,12 @@ fn brace_between<'a>(
 #[cycle(braces)]
 fn brace_past<'a>(bang: bool, bracket: &'a [u8], closing: &'a [u8]) -> Option<&'a [u8]>
     requires small { length bracket.now ≤ 2 ^ 30 }
-    requires behind { bracket.now ≡ take (length bracket.now - length closing.now) bracket.now ++ closing.now }
+    requires following { bracket.now ≡ take (length bracket.now - length closing.now) bracket.now ++ closing.now }
     ensures { option_map (λ x. x.now) result ≡ brace_between bang (Some bracket.now) (Some closing.now) }
 {
     let (chord, _) = bracket.split_at(bracket.len() - closing.len());
-    let (_, behind) = chord.split_first()?;
-    let brace = brace_at(bang, length_from(behind).1)?;
+    let (_, following) = chord.split_first()?;
+    let brace = brace_at(bang, length_from(following).1)?;
     Some(bracket.split_at(chord.len() - brace.len()).1)
 }
 
@@ -261,7 +261,7 @@ fn brace_in_name(bang: bool, bytes: &[u8]) -> Option<&[u8]>
     ensures { option_map (λ x. x.now) result ≡ brace_in_name bang bytes.now }
 {
     match bytes.split_first() {
-        Some((mark, behind)) if *mark == b'!' && !bang => brace_in(bang, behind),
+        Some((mark, following)) if *mark == b'!' && !bang => brace_in(bang, following),
         _ => None,
     }
 }
@@ -319,8 +319,8 @@ pub fn grace_fault(bang: bool, bytes: &[u8]) -> Flaw
             left: bytes.len() + 1,
         };
     }
-    let (_, behind) = skip(b'/', bytes);
-    match grace_state(bang, behind) {
+    let (_, following) = skip(b'/', bytes);
+    match grace_state(bang, following) {
         Some(flaw) => flaw,
         None => Flaw {
             kind: FaultKind::Unclosed,
@@ -336,9 +336,9 @@ pub fn read_body(alloc: Global, bang: bool, inside: &[u8]) -> Result<Row<GraceCh
 {
     let mut body = Row::new(alloc);
     let mut rest = inside;
-    'parts: while let Some((part, behind)) = grace_part_at(bang, rest) {
+    'parts: while let Some((part, following)) = grace_part_at(bang, rest) {
         add_part(alloc, &mut body, bang, part)?;
-        rest = behind;
+        rest = following;
     }
     Ok(body)
 }

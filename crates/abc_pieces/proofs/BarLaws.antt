@@ -141,8 +141,8 @@ signs-reaches d b o m c a x =
     )
 
 -- bar signs after colons and a bracket: so x begins with one of the three
-behind_colons : (x : List ℕ) → begins (λ b. eqb b 124) (skip 91 (run_off 58 x).1).1 ≡ true → begins goes_on x ≡ true
-behind_colons x h =
+after_colons : (x : List ℕ) → begins (λ b. eqb b 124) (skip 91 (run_off 58 x).1).1 ≡ true → begins goes_on x ≡ true
+after_colons x h =
     elim (run_off-less 58 x) [
       | inl colon ↦ on 58 x refl colon.1
       | inr none ↦ elim (skip-less 91 x) [
@@ -190,7 +190,7 @@ colons-reaches m x =
                 length-skip 93 l.1,
                 length-run_off 58 c.1,
               ),
-              behind_colons x shorter.1,
+              after_colons x shorter.1,
             )
             | inr none ↦
                 absurd (let zero_is : eqb 0 0 ≡ false = subst (λ (p : ℕ × List ℕ). eqb p.0 0 ≡ false) none e in cc)

@@ -34,7 +34,7 @@ use Rattle.abc_pieces.specs.Forms.{is_cut}
 use Rattle.abc_pieces.specs.Reading.{FormAndRest, read, class_of, note_form_read, rest_read, gap_read, measures_read}
 use Rattle.abc_pieces.specs.Reading.{bar_read, chord_read, grace_read, tuplet_read, or_else, ending_read, broken_read}
 use Rattle.abc_pieces.specs.Reading.{says_read, plus_closed, plus_read, inline_read, space_read, named_or_lone}
-use Rattle.abc_pieces.specs.Reading.{bang_read, dot_behind, dot_read, bracket_form, by_class, piece_at}
+use Rattle.abc_pieces.specs.Reading.{bang_read, dot_after, dot_read, bracket_form, by_class, piece_at}
 use Rattle.abc_pieces.specs.Tuplets.{TupletForm, tuplet_then, tuplet_at, IsTuplet}
 use Rattle.abc_pieces.specs.declared.token.PieceBefore.{PieceBefore}
 use Rattle.abc_pieces.specs.declared.token.PieceClass.{PieceClass}
@@ -42,7 +42,7 @@ use Rattle.abc_pieces.specs.declared.token.BracketOpening.{BracketOpening}
 use Rattle.abc_pieces.proofs.BarLaws.{TakesIf as TakesBarIf, form_at-takes, form_at-reaches}
 use Rattle.abc_pieces.proofs.TupletLaws.{TakesTuplet, tuplet_at-takes, tuplet_at-reaches, tuplet-longer}
 use Rattle.abc_pieces.proofs.Classes.{digit_below, digit_class, blank_class, letter_class, passed_class, letter_apart}
-use Rattle.abc_pieces.proofs.PieceTakes.{opening-behind}
+use Rattle.abc_pieces.proofs.PieceTakes.{opening-following}
 
 pub record Reaches (x : List ℕ) (f : Form) (r : FormAndRest) : Type 0 where
   pub form : Form
@@ -216,7 +216,8 @@ plus-reaches text x pass = record {
   ends = inr refl;
 }
 
-lone_plus : (x text behind : List ℕ) → x ≡ text ++ behind → Reaches x (passed_form 43) (plus_closed x (text, behind))
+lone_plus : (x text following : List ℕ)
+    → x ≡ text ++ following → Reaches x (passed_form 43) (plus_closed x (text, following))
 lone_plus x text [] e = same x (passed_form 43)
 lone_plus x text (mark ∷ rest) e =
     cond_both (eqb mark 43) (read (plus_form text) rest) (read (passed_form 43) x) (Reaches x (passed_form 43))
@@ -399,10 +400,10 @@ dot_or : (x : List ℕ) → Reaches x (letter_form 46) (or_else (bar_read (46 �
 unfolding bar_read
 dot_or x = letter_or x (form_at (46 ∷ x)) (form_at-takes (46 ∷ x))
 
-behind_dot : (x : List ℕ) (other : FormAndRest)
-    → Reaches x (letter_form 46) other → Reaches x (letter_form 46) (dot_behind x other)
-behind_dot [] other t = t
-behind_dot (b ∷ x) other t =
+after_dot : (x : List ℕ) (other : FormAndRest)
+    → Reaches x (letter_form 46) other → Reaches x (letter_form 46) (dot_after x other)
+after_dot [] other t = t
+after_dot (b ∷ x) other t =
     cond_both (eqb b 40) (read (slur_form true) x) (cond (eqb b 45) (read (tie_form true) x) other)
     (Reaches (b ∷ x) (letter_form 46))
     (λ e. record { form = slur_form true; rest = x; is = refl; ends = inl (omega arith) })
@@ -415,7 +416,7 @@ letter-reaches : (bang : Bool) (before : PieceBefore) (b : ℕ) (x : List ℕ)
 unfolding class_of dot_read
 letter-reaches bang before b x h =
     elim (or_cases (eqb b 46) (is_deco_letter b) h) [
-      | inl dot ↦ rw (eqb-true b 46 dot, at_class bang before 46 x PieceClass.Dot refl) (behind_dot x _ (dot_or x))
+      | inl dot ↦ rw (eqb-true b 46 dot, at_class bang before 46 x PieceClass.Dot refl) (after_dot x _ (dot_or x))
       | inr letter ↦ rw (at_class bang before b x PieceClass.Letter (letter_class b letter)) (same x (letter_form b))
     ]
 
@@ -455,7 +456,7 @@ opened_chord : (bang : Bool) (f : ChordForm) (x : List ℕ)
     → bracket_form (opening (chord_then f x)) bang (chord_then f x) ≡ chord_read bang (chord_then f x)
 opened_chord bang f x h =
     let e : opening (chord_then f x) ≡ BracketOpening.Chord =
-    opening-behind f.inside (length_then f.length x) (length_then f.length []) ∙ h in
+    opening-following f.inside (length_then f.length x) (length_then f.length []) ∙ h in
     rw e refl
 
 ending_at-reaches : (bang : Bool) (before : PieceBefore) (bracket : Bool) (d : ℕ) (more x : List ℕ)

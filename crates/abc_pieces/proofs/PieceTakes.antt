@@ -23,7 +23,7 @@ use Rattle.abc_pieces.specs.Forms.{is_passed, arrow, rest_byte, measures_byte, i
 use Rattle.abc_pieces.specs.Reading.{FormAndRest, read, class_of, note_form_read, rest_read, gap_read, measures_read}
 use Rattle.abc_pieces.specs.Reading.{bar_read, chord_read, grace_read, tuplet_read, or_else, ending_read, broken_read}
 use Rattle.abc_pieces.specs.Reading.{closed, says_read, plus_closed, plus_read, inline_read, space_read, named_or_lone}
-use Rattle.abc_pieces.specs.Reading.{bang_read, dot_behind, dot_read, bracket_form, by_class, piece_at}
+use Rattle.abc_pieces.specs.Reading.{bang_read, dot_after, dot_read, bracket_form, by_class, piece_at}
 use Rattle.abc_pieces.specs.Bars.{BarForm, form_at}
 use Rattle.abc_pieces.specs.Tuplets.{TupletForm, tuplet_at}
 use Rattle.abc_pieces.specs.declared.token.PieceBefore.{PieceBefore}
@@ -98,16 +98,16 @@ bracket-takes bang before (b ∷ s) =
     })
     (λ e. tt)
 
-pub opening-behind : (w x y : List ℕ) → opening (w ++ (93 ∷ x)) ≡ opening (w ++ (93 ∷ y))
-opening-behind (b ∷ []) x y = refl
-opening-behind _ x y = refl
+pub opening-following : (w x y : List ℕ) → opening (w ++ (93 ∷ x)) ≡ opening (w ++ (93 ∷ y))
+opening-following (b ∷ []) x y = refl
+opening-following _ x y = refl
 
 from_chord : (bang : Bool) (before : PieceBefore) (s : List ℕ) (r : Option (ChordForm × List ℕ))
     → opening s ≡ BracketOpening.Chord → TakesChord bang s r
     → Takes bang before (91 ∷ s) (option_map (λ z. (chord_form z.0, z.1)) r)
 from_chord bang before s None o t = tt
 from_chord bang before s (Some z) o t = record {
-  good = (t.0, opening-behind z.0.inside _ _ ∙ ap opening (sym t.1) ∙ o);
+  good = (t.0, opening-following z.0.inside _ _ ∙ ap opening (sym t.1) ∙ o);
   allowed = tt;
   cut = ap (λ x. 91 ∷ x) t.1;
 }
@@ -118,11 +118,11 @@ unfolding chord_read
 chord-takes bang before s o = from_chord bang before s (chord_at bang s) o (chord_at-takes bang s)
 
 closed_text-takes : (bang : Bool) (before : PieceBefore) (s : List ℕ) (form : List ℕ → Form) (p : ℕ → Bool)
-    (t text behind : List ℕ)
-    → t ≡ text ++ behind → list_all p text ≡ true → begins p behind ≡ false
+    (t text following : List ℕ)
+    → t ≡ text ++ following → list_all p text ≡ true → begins p following ≡ false
     → ((b : ℕ) (rest : List ℕ)
     → list_all p text ≡ true → t ≡ text ++ (b ∷ rest) → p b ≡ false → Stands bang before s (form text) rest)
-    → Takes bang before s (closed form (text, behind))
+    → Takes bang before s (closed form (text, following))
 closed_text-takes bang before s form p t text [] e pass stops finish = tt
 closed_text-takes bang before s form p t text (b ∷ rest) e pass stops finish = finish b rest pass e stops
 
@@ -241,8 +241,9 @@ says-takes bang before s =
 alone-plus : (bang : Bool) (before : PieceBefore) (s : List ℕ) → Stands bang before (43 ∷ s) (passed_form 43) s
 alone-plus bang before s = record { good = refl; allowed = tt; cut = refl }
 
-plus_text : (bang : Bool) (before : PieceBefore) (s text behind : List ℕ)
-    → s ≡ text ++ behind → list_all is_plus_byte text ≡ true → Takes bang before (43 ∷ s) (plus_closed s (text, behind))
+plus_text : (bang : Bool) (before : PieceBefore) (s text following : List ℕ)
+    → s ≡ text ++ following → list_all is_plus_byte text ≡ true
+    → Takes bang before (43 ∷ s) (plus_closed s (text, following))
 plus_text bang before s text [] e pass = alone-plus bang before s
 plus_text bang before s text (mark ∷ rest) e pass =
     cond_both (eqb mark 43) (read (plus_form text) rest) (read (passed_form 43) s) (Takes bang before (43 ∷ s))
@@ -275,10 +276,10 @@ unfolding bang_read
 bang-takes true before s = record { good = refl; allowed = tt; cut = refl }
 bang-takes false before s = named-takes before s (name_at s) (name_at-takes s)
 
-dot_behind-takes : (bang : Bool) (before : PieceBefore) (s : List ℕ) (other : FormAndRest)
-    → Takes bang before (46 ∷ s) other → Takes bang before (46 ∷ s) (dot_behind s other)
-dot_behind-takes bang before [] other t = t
-dot_behind-takes bang before (b ∷ s) other t =
+dot_after-takes : (bang : Bool) (before : PieceBefore) (s : List ℕ) (other : FormAndRest)
+    → Takes bang before (46 ∷ s) other → Takes bang before (46 ∷ s) (dot_after s other)
+dot_after-takes bang before [] other t = t
+dot_after-takes bang before (b ∷ s) other t =
     cond_both (eqb b 40) (read (slur_form true) s) (cond (eqb b 45) (read (tie_form true) s) other)
     (Takes bang before (46 ∷ b ∷ s))
     (λ e. record { good = tt; allowed = tt; cut = ap (λ x. 46 ∷ x ∷ s) (eqb-true b 40 e) })
@@ -289,7 +290,7 @@ dot_behind-takes bang before (b ∷ s) other t =
 dot-takes : (bang : Bool) (before : PieceBefore) (s : List ℕ) → Takes bang before (46 ∷ s) (dot_read s)
 unfolding dot_read
 dot-takes bang before s =
-    dot_behind-takes bang before s _
+    dot_after-takes bang before s _
     (either-takes bang before (46 ∷ s) (bar_read (46 ∷ s)) (read (letter_form 46) s) (bar-takes bang before (46 ∷ s))
     (record { good = refl; allowed = tt; cut = refl }))
 

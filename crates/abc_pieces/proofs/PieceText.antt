@@ -13,8 +13,8 @@ pub ending_is : (bracket : Bool) (s : List ℕ) (b : ℕ) (rest : List ℕ) (k :
     → s ≡ b ∷ rest → is_digit b ≡ true → k ≡ prefix_len is_ending rest → text ≡ take (1 + k) s → after ≡ drop (1 + k) s
     → Some (token_and_rest (Some (Token.Ending text)) PieceBefore.Other after) ≡ meaning (ending_read bracket s)
 unfolding ending_read span_all
-ending_is bracket s b rest k text after cut digit count front back =
-    let more : 1 + k ≡ suc k = omega arith in rw (front, back, more, cut, digit, ← count) refl
+ending_is bracket s b rest k text after cut digit count prefix back =
+    let more : 1 + k ≡ suc k = omega arith in rw (prefix, back, more, cut, digit, ← count) refl
 
 pub letter_or_bar : (r : FormAndRest) (t : Option Token) (next : PieceBefore) (rest left : List ℕ)
     → None ≡ meaning r

@@ -125,13 +125,13 @@ unfoldable pub bang_read : Bool → List ℕ → FormAndRest
 bang_read true s = read (cut_form (code "!")) s
 bang_read false s = named_or_lone (name_at s) s
 
-abbrev pub dot_behind : List ℕ → FormAndRest → FormAndRest
-dot_behind [] other = other
-dot_behind (b ∷ s) other =
+abbrev pub dot_after : List ℕ → FormAndRest → FormAndRest
+dot_after [] other = other
+dot_after (b ∷ s) other =
     if b == code "(" then read (slur_form true) s else (if b == code "-" then read (tie_form true) s else other)
 
 unfoldable pub dot_read : List ℕ → FormAndRest
-dot_read s = dot_behind s (or_else (bar_read (code "." ∷ s)) (read (letter_form (code ".")) s))
+dot_read s = dot_after s (or_else (bar_read (code "." ∷ s)) (read (letter_form (code ".")) s))
 
 abbrev pub bracket_form : BracketOpening → Bool → List ℕ → FormAndRest
 bracket_form BracketOpening.Bar bang s = bar_read (code "[" ∷ s)

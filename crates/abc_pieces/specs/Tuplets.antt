@@ -45,19 +45,19 @@ r_of (with_q p q) = 0
 r_of (with_r p q r) = value_or_zero r
 
 -- ---- reading: a link between these and the code
-abbrev pub behind_q : ℕ → List ℕ × List ℕ → TupletForm × List ℕ
-behind_q p q =
+abbrev pub after_q : ℕ → List ℕ × List ℕ → TupletForm × List ℕ
+after_q p q =
     let colon = skip (code ":") q.1 in
     let r = number_at 2 colon.1 in
     if colon.0 then (with_r p q.0 r.0, r.1) else (with_q p q.0, q.1)
 
-abbrev pub behind_p : ℕ → List ℕ → TupletForm × List ℕ
-behind_p p rest =
-    let colon = skip (code ":") rest in if colon.0 then behind_q p (number_at 1 colon.1) else (bare p, rest)
+abbrev pub after_p : ℕ → List ℕ → TupletForm × List ℕ
+after_p p rest =
+    let colon = skip (code ":") rest in if colon.0 then after_q p (number_at 1 colon.1) else (bare p, rest)
 
 unfoldable pub tuplet_at : List ℕ → Option (TupletForm × List ℕ)
 tuplet_at [] = None
-tuplet_at (p ∷ rest) = if is_tuplet_digit p then Some (behind_p p rest) else None
+tuplet_at (p ∷ rest) = if is_tuplet_digit p then Some (after_p p rest) else None
 
 abbrev pub tuplet_shown : ℕ → ℕ → ℕ → List ℕ → ℕ × ℕ × ℕ × List ℕ
 tuplet_shown p q r rest = (p, q, r, rest)

@@ -264,8 +264,11 @@ fn dot<'a>(bytes: &'a [u8], rest: &'a [u8]) -> Option<LinePiece<'a>>
     ensures within { (n : ℕ) → IfSome result (λ x. found_within x.found n) }
 {
     match rest.split_first() {
-        Some((second, behind)) if *second == b'(' => Some(plain(BorrowedToken::SlurOn, behind)),
-        Some((second, behind)) if *second == b'-' => Some(plain(BorrowedToken::Tie, behind)),
+        Some((second, following)) if *second == b'(' => Some(plain(
+            BorrowedToken::SlurOn,
+            following,
+        )),
+        Some((second, following)) if *second == b'-' => Some(plain(BorrowedToken::Tie, following)),
         _ => Some(dot_or_bar(bytes, rest)),
     }
 }
@@ -497,8 +500,8 @@ fn plus(bytes: &[u8]) -> LinePiece<'_>
     ensures read { (bang : Bool) → shown_piece bang (Some result) ≡ meaning (plus_read bytes.now) }
     ensures within { (n : ℕ) → found_within result.found n }
 {
-    let behind = bytes.split_at(plus_len(bytes)).1;
-    match behind.split_first() {
+    let following = bytes.split_at(plus_len(bytes)).1;
+    match following.split_first() {
         Some((mark, rest)) if *mark == b'+' => plain(BorrowedToken::Passed, rest),
         _ => plain(BorrowedToken::Passed, bytes),
     }

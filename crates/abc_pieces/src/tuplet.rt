@@ -1,7 +1,7 @@
 ghost use Rattle.std.specs.Prelude.{◌≡◌, ◌≤◌, ◌-◌, option_map, length, true};
 ghost use Rattle.std.specs.List.{list_all};
 ghost use Rattle.{abc_lines.specs.Kinds.{code}, mus_units.specs.Bytes.{is_digit}};
-ghost use Rattle.abc_pieces.specs.Tuplets.{is_tuplet_digit, p_of, q_of, r_of, tuplet_at, behind_p, behind_q};
+ghost use Rattle.abc_pieces.specs.Tuplets.{is_tuplet_digit, p_of, q_of, r_of, tuplet_at, after_p, after_q};
 ghost use Rattle.abc_pieces.specs.Tuplets.{value_or_zero, tuplet_shown};
 
 use abc_notes::bytes::skip;
@@ -25,21 +25,21 @@ pub(crate) fn tuplet_at(bytes: &[u8]) -> Option<Tuplet<'_>>
 {
     let (p, rest) = bytes.split_first()?;
     if is_tuplet_digit(*p) {
-        Some(behind_p(*p, rest))
+        Some(after_p(*p, rest))
     } else {
         None
     }
 }
 
-fn behind_p(p: u8, bytes: &[u8]) -> Tuplet<'_>
+fn after_p(p: u8, bytes: &[u8]) -> Tuplet<'_>
     requires { is_tuplet_digit p ≡ true }
-    ensures { let z = behind_p p bytes.now in
+    ensures { let z = after_p p bytes.now in
         tuplet_shown result.p result.q result.r result.rest.now ≡ tuplet_shown (p_of z.0) (q_of z.0) (r_of z.0) z.1 }
 {
     let (colon, rest) = skip(b':', bytes);
     if colon {
         let (q, rest) = number_at(1, rest);
-        behind_q(p, q, rest)
+        after_q(p, q, rest)
     } else {
         Tuplet {
             p: p - b'0',
@@ -50,11 +50,11 @@ fn behind_p(p: u8, bytes: &[u8]) -> Tuplet<'_>
     }
 }
 
-fn behind_q<'a>(p: u8, q: &'a [u8], bytes: &'a [u8]) -> Tuplet<'a>
+fn after_q<'a>(p: u8, q: &'a [u8], bytes: &'a [u8]) -> Tuplet<'a>
     requires p { is_tuplet_digit p ≡ true }
     requires few { length q.now ≤ 2 }
     requires digits { list_all is_digit q.now ≡ true }
-    ensures { let z = behind_q p (q.now, bytes.now) in
+    ensures { let z = after_q p (q.now, bytes.now) in
         tuplet_shown result.p result.q result.r result.rest.now ≡ tuplet_shown (p_of z.0) (q_of z.0) (r_of z.0) z.1 }
 {
     let (colon, rest) = skip(b':', bytes);

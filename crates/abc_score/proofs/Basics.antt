@@ -12,9 +12,9 @@ pub none_before : {X : Type 0} (xs ys : List X) → xs ++ ys ≡ [] → xs ≡ [
 none_before [] ys e = refl
 none_before (x ∷ xs) ys e = absurd cc
 
-pub none_behind : {X : Type 0} (xs ys : List X) → xs ++ ys ≡ [] → ys ≡ []
-none_behind [] ys e = e
-none_behind (x ∷ xs) ys e = absurd cc
+pub none_after : {X : Type 0} (xs ys : List X) → xs ++ ys ≡ [] → ys ≡ []
+none_after [] ys e = e
+none_after (x ∷ xs) ys e = absurd cc
 
 -- a property of both parts of a list
 pub all_both : {X : Type 0} (P : X → Type 0) (xs ys : List X)
@@ -22,9 +22,9 @@ pub all_both : {X : Type 0} (P : X → Type 0) (xs ys : List X)
 all_both P [] ys a b = b
 all_both P (x ∷ xs) ys a b = (a.0, all_both P xs ys a.1 b)
 
-pub front_all : {X : Type 0} (P : X → Type 0) (xs ys : List X) → AllByRecursion P (xs ++ ys) → AllByRecursion P xs
-front_all P [] ys h = tt
-front_all P (x ∷ xs) ys h = (h.0, front_all P xs ys h.1)
+pub prefix_all : {X : Type 0} (P : X → Type 0) (xs ys : List X) → AllByRecursion P (xs ++ ys) → AllByRecursion P xs
+prefix_all P [] ys h = tt
+prefix_all P (x ∷ xs) ys h = (h.0, prefix_all P xs ys h.1)
 
 pub back_all : {X : Type 0} (P : X → Type 0) (xs ys : List X) → AllByRecursion P (xs ++ ys) → AllByRecursion P ys
 back_all P [] ys h = h

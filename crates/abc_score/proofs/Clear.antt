@@ -19,7 +19,7 @@ use Rattle.abc_steps.specs.declared.step.Step.{Step}
 use Rattle.abc_steps.specs.declared.step.PlacedStep.{PlacedStep}
 use Rattle.abc_steps.specs.declared.force.InForce.{InForce}
 use Rattle.abc_steps.specs.declared.state.VoiceState.{VoiceState}
-use Rattle.abc_score.proofs.Basics.{none_before, none_behind}
+use Rattle.abc_score.proofs.Basics.{none_before, none_after}
 use Rattle.abc_score.specs.declared.voices.ReadVoice.{ReadVoice}
 use Rattle.abc_score.specs.Faults.{voice_faults, faults_of_voices}
 use Rattle.abc_score.specs.Score.{most_measures, own_measures}
@@ -32,24 +32,24 @@ no_fault false kind at e = refl
 -- ---- steps
 
 -- a note, a chord or a rest without faults
-pub record IsClearSound (now : VoiceState) (before behind : Steps) (s : WrittenSound) : Type 0 where
-  pub drawn : let whole = written_length now.force.unit s before behind in
+pub record IsClearSound (now : VoiceState) (before following : Steps) (s : WrittenSound) : Type 0 where
+  pub drawn : let whole = written_length now.force.unit s before following in
       is_none (parts_list whole.num whole.den) ≡ false
   pub near : any_off now.force.clef s.heads ≡ false
   pub within : measure_of now < 2000
   pub graces : grace_faults now.force.clef (since_event before) ≡ []
 
-pub sound_clear : (now : VoiceState) (before behind : Steps) (at : PlacedStep) (s : WrittenSound)
-    → faults_of now before at behind (Step.Sound s) ≡ []
-    → IsClearSound now before behind s
+pub sound_clear : (now : VoiceState) (before following : Steps) (at : PlacedStep) (s : WrittenSound)
+    → faults_of now before at following (Step.Sound s) ≡ []
+    → IsClearSound now before following s
 unfolding faults_of sound_faults
-sound_clear now before behind at s e =
+sound_clear now before following at s e =
     let own = none_before _ _ e in let both = none_before _ _ own in
     record {
       drawn = no_fault _ _ _ (none_before _ _ both);
-      near = no_fault _ _ _ (none_behind _ _ both);
-      within = leb-false 2000 _ (no_fault _ _ _ (none_behind _ _ own));
-      graces = none_behind _ _ e;
+      near = no_fault _ _ _ (none_after _ _ both);
+      within = leb-false 2000 _ (no_fault _ _ _ (none_after _ _ own));
+      graces = none_after _ _ e;
     }
 
 -- whole measure rests without faults
@@ -58,43 +58,43 @@ pub record IsClearRest (now : VoiceState) (before : Steps) (count : ℕ) : Type 
   pub within : measure_of now + (count - 1) < 2000
   pub graces : grace_faults now.force.clef (since_event before) ≡ []
 
-pub rest_clear : (now : VoiceState) (before behind : Steps) (at : PlacedStep) (seen : Bool) (count : ℕ)
-    → faults_of now before at behind (Step.Measures seen count) ≡ []
+pub rest_clear : (now : VoiceState) (before following : Steps) (at : PlacedStep) (seen : Bool) (count : ℕ)
+    → faults_of now before at following (Step.Measures seen count) ≡ []
     → IsClearRest now before count
 unfolding faults_of
-rest_clear now before behind at seen count e =
+rest_clear now before following at seen count e =
     let own = none_before _ _ e in
     record {
       metered = no_fault _ _ _ (none_before _ _ own);
-      within = leb-false 2000 _ (no_fault _ _ _ (none_behind _ _ own));
-      graces = none_behind _ _ e;
+      within = leb-false 2000 _ (no_fault _ _ _ (none_after _ _ own));
+      graces = none_after _ _ e;
     }
 
 -- one more step: an event without a fault is in a good measure
-step_within : (first : InForce) (before behind : Steps) (at : PlacedStep) (s : Step)
-    → faults_of (state_at first before) before at behind s ≡ []
+step_within : (first : InForce) (before following : Steps) (at : PlacedStep) (s : Step)
+    → faults_of (state_at first before) before at following s ≡ []
     → measures_begun before ≤ 2000
     → cond (is_event s) (measure_at before + further_measures s + 1) (measures_begun before) ≤ 2000
 unfolding is_event further_measures
-step_within first before behind at (Step.Sound s) e few =
-    let clear = sound_clear (state_at first before) before behind at s e in omega (arith, clear.within)
-step_within first before behind at (Step.Measures seen count) e few =
-    let clear = rest_clear (state_at first before) before behind at seen count e in omega (arith, clear.within)
-step_within first before behind at _ e few = few
+step_within first before following at (Step.Sound s) e few =
+    let clear = sound_clear (state_at first before) before following at s e in omega (arith, clear.within)
+step_within first before following at (Step.Measures seen count) e few =
+    let clear = rest_clear (state_at first before) before following at seen count e in omega (arith, clear.within)
+step_within first before following at _ e few = few
 
-pub turned : (at : PlacedStep) (behind before : Steps)
-    → reverse behind ++ (at ∷ before) ≡ reverse (at ∷ behind) ++ before
-turned at behind before =
-    sym (ap (λ z. z ++ before) (reverse-append (at ∷ []) behind) ∙ append_assoc (reverse behind) (at ∷ []) before)
+pub turned : (at : PlacedStep) (following before : Steps)
+    → reverse following ++ (at ∷ before) ≡ reverse (at ∷ following) ++ before
+turned at following before =
+    sym (ap (λ z. z ++ before) (reverse-append (at ∷ []) following) ∙ append_assoc (reverse following) (at ∷ []) before)
 
-walk_within : (first : InForce) (before behind : Steps)
-    → faults_in first before behind ≡ [] → measures_begun before ≤ 2000
-    → measures_begun (reverse behind ++ before) ≤ 2000
+walk_within : (first : InForce) (before following : Steps)
+    → faults_in first before following ≡ [] → measures_begun before ≤ 2000
+    → measures_begun (reverse following ++ before) ≤ 2000
 walk_within first before [] e few = few
-walk_within first before (at ∷ behind) e few =
-    subst (λ (z : Steps). measures_begun z ≤ 2000) (turned at behind before)
-    (walk_within first (at ∷ before) behind (none_behind _ _ e)
-    (step_within first before behind at at.step (none_before _ _ e) few))
+walk_within first before (at ∷ following) e few =
+    subst (λ (z : Steps). measures_begun z ≤ 2000) (turned at following before)
+    (walk_within first (at ∷ before) following (none_after _ _ e)
+    (step_within first before following at at.step (none_before _ _ e) few))
 
 -- ---- voices
 own_within : (v : ReadVoice) → faults_in v.first [] v.steps ≡ [] → own_measures v ≤ 2000
@@ -113,8 +113,8 @@ each_clear : (unnamed : List ℕ) (items : List BodyItem) (voices : List ReadVoi
 each_clear unnamed items [] e = tt
 each_clear unnamed items (v ∷ voices) e =
     let here = none_before _ _ e in (
-      record { own = none_before _ _ here; verses = ap head_of (none_behind _ _ here) },
-      each_clear unnamed items voices (none_behind _ _ e),
+      record { own = none_before _ _ here; verses = ap head_of (none_after _ _ here) },
+      each_clear unnamed items voices (none_after _ _ e),
     )
 
 pub voices_clear : (unnamed : List ℕ) (items : List BodyItem) (voices : List ReadVoice)

@@ -5,7 +5,7 @@ use Rattle.std.proofs.lemmas.List.{map-append, Concat.flat_map-append, Elements.
 use Rattle.std.specs.{Prelude.{⊤, flat_map}, List.{All, AllByRecursion}}
 use Rattle.mus_units.specs.{declared.pitch.Clef.Clef, Good.{IsGoodKey, IsGoodMeter}}
 use Rattle.abc_events.specs.{Leaf.Leaf, Nesting.{Forest, none_more, one, group, nest, music_of, tree_of}}
-use Rattle.abc_score.proofs.{Basics.{front_all, back_all}, Rows.{rows, leaf_rows, nest_rows, at_tuplet}}
+use Rattle.abc_score.proofs.{Basics.{prefix_all, back_all}, Rows.{rows, leaf_rows, nest_rows, at_tuplet}}
 use Rattle.mus_score.specs.GoodScore.{AreCounted, AreInReach, IsGoodEvent, IsInReach, clef_at}
 use Rattle.mus_score.specs.Times.{Leafing, in_row, leaves_step, leaves_within, flats_of, no_pending_leaf}
 use Rattle.mus_score.specs.declared.{score.{Event.Event, Flat.Flat, Music.Music}, times.PendingLeaf.PendingLeaf}
@@ -114,10 +114,10 @@ forest_sings : (f : Forest) → AllByRecursion IsSung (rows f) → Sings (music_
 forest_sings none_more h = sings_none
 forest_sings (one nodes f) h = sings_append nodes (music_of f) (sung nodes) _ h.0 (forest_sings f h.1)
 forest_sings (group p q takes inner f) h =
-    let front = forest_sings inner (front_all IsSung (rows inner) (rows f) h) in
+    let prefix = forest_sings inner (prefix_all IsSung (rows inner) (rows f) h) in
     let back = forest_sings f (back_all IsSung (rows inner) (rows f) h) in
     rw (flat_map-append sung (rows inner) (rows f))
-    (sings_append (music.Tuplet p q _ ∷ []) (music_of f) _ _ (sings_tuplet p q _ _ front) back)
+    (sings_append (music.Tuplet p q _ ∷ []) (music_of f) _ _ (sings_tuplet p q _ _ prefix) back)
 
 pub tree_sings : (ls : List Leaf)
     → AllByRecursion IsSung (leaf_rows ls) → map core (flats_of (tree_of ls)) ≡ flat_map sung (leaf_rows ls)

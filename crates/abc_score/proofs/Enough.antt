@@ -11,7 +11,7 @@ use Rattle.abc_faults.proofs.Crowds.{IsFaultOf, before_all, crowd_held, fault_of
 use Rattle.abc_faults.proofs.Caps.{capped_append}
 use Rattle.abc_faults.proofs.Firsts.{first_append, not_before, not_before_itself}
 use Rattle.abc_faults.specs.{First.{earlier, first_of, is_before, IsFirstInOrder}, declared.weights.Weight.Weight}
-use Rattle.abc_faults.specs.Weights.{IsBehind, capped, count_up_to, crowd_fault, crowd_up_to, crowded, stands_before}
+use Rattle.abc_faults.specs.Weights.{IsAfter, capped, count_up_to, crowd_fault, crowd_up_to, crowded, stands_before}
 
 pub all_enough : (faults : List Fault) (all : List Weight) → AreEnough faults faults all all
 all_enough faults all = record {
@@ -21,25 +21,25 @@ all_enough faults all = record {
   light = λ w. inl (λ h. h, omega arith);
 }
 
-front_within : (xs ys : List Weight) (w : Weight) → IsWithin xs (xs ++ ys) w
-front_within xs ys w = (Contains-append_left xs ys w, omega (arith, sum_by-append (count_up_to w) xs ys))
+prefix_within : (xs ys : List Weight) (w : Weight) → IsWithin xs (xs ++ ys) w
+prefix_within xs ys w = (Contains-append_left xs ys w, omega (arith, sum_by-append (count_up_to w) xs ys))
 
 back_within : (xs ys : List Weight) (w : Weight) → IsWithin ys (xs ++ ys) w
 back_within xs ys w = (Contains-append_right xs ys w, omega (arith, sum_by-append (count_up_to w) xs ys))
 
 -- ---- after a crowd
-pub enough_behind : (some hidden : List Fault) (put light : List Weight) (at : Weight)
+pub enough_after : (some hidden : List Fault) (put light : List Weight) (at : Weight)
     → Contains put at → 50000 < crowd_up_to put at
-    → AllByRecursion (λ f. is_before f (crowd_fault at) ≡ false) hidden → AllByRecursion (IsBehind at) light
+    → AllByRecursion (λ f. is_before f (crowd_fault at) ≡ false) hidden → AllByRecursion (IsAfter at) light
     → AreEnough some (some ++ hidden) put (put ++ light)
-enough_behind some hidden put light at held crowd late behind = record {
+enough_after some hidden put light at held crowd late following = record {
   held = Contains-append_left some hidden;
-  within = front_within put light;
+  within = prefix_within put light;
   others = λ f h. ⊎_map (λ k. k) (λ k. by_crowd f (held_in hidden late f k)) (Contains-append_cases some hidden f h);
   light = λ w. by_test w (stands_before w at) refl;
 } where
   by_crowd : (f : Fault) → is_before f (crowd_fault at) ≡ false → HasCrowd put f
-  by_crowd f e = record { at = at; held = held; crowd = crowd; behind = e }
+  by_crowd f e = record { at = at; held = held; crowd = crowd; following = e }
 
   held_in : (fs : List Fault)
       → AllByRecursion (λ f. is_before f (crowd_fault at) ≡ false) fs → (f : Fault) → Contains fs f
@@ -50,12 +50,12 @@ enough_behind some hidden put light at held crowd late behind = record {
       → stands_before w at ≡ b → IsWithin (put ++ light) put w ⊎ HasCrowd put (crowd_fault w)
   by_test w false e = inr (by_crowd (crowd_fault w) (same_order w at ∙ e))
   by_test w true e =
-      let not = λ (k : Contains light w). All-contains (IsBehind at) light w (All-from_recursion _ light behind) k in
+      let not = λ (k : Contains light w). All-contains (IsAfter at) light w (All-from_recursion _ light following) k in
       inl (
         λ h.
             ⊎_elim (λ k. k) (λ k. let later : stands_before w at ≡ false = not k in absurd cc)
             (Contains-append_cases put light w h),
-        omega (arith, none_up_to w light (before_all w at light e behind), sum_by-append (count_up_to w) put light),
+        omega (arith, none_up_to w light (before_all w at light e following), sum_by-append (count_up_to w) put light),
       )
 
 -- ---- two parts
@@ -74,22 +74,22 @@ within_both p q a b w h i = (
 
 crowd_within : (xs ys : List Weight) (f : Fault) → ((w : Weight) → IsWithin xs ys w) → HasCrowd xs f → HasCrowd ys f
 crowd_within xs ys f h c =
-    record { at = c.at; held = (h c.at).0 c.held; crowd = omega (arith, c.crowd, (h c.at).1); behind = c.behind }
+    record { at = c.at; held = (h c.at).0 c.held; crowd = omega (arith, c.crowd, (h c.at).1); following = c.following }
 
 enough_both : {s f t g : List Fault} {p a q b : List Weight}
     → AreEnough s f p a → AreEnough t g q b → AreEnough (s ++ t) (f ++ g) (p ++ q) (a ++ b)
 enough_both {s = s} {f = f} {t = t} {g = g} {p = p} {a = a} {q = q} {b = b} h i =
-    let front = λ (x : Fault). crowd_within p (p ++ q) x (front_within p q) in
+    let prefix = λ (x : Fault). crowd_within p (p ++ q) x (prefix_within p q) in
     let back = λ (x : Fault). crowd_within q (p ++ q) x (back_within p q) in
     record {
       held = λ x. held_both s t f g x (h.held x) (i.held x);
       within = λ w. within_both p q a b w (h.within w) (i.within w);
       others = λ x k.
-          ⊎_elim (λ j. ⊎_map (Contains-append_left s t x) (front x) (h.others x j))
+          ⊎_elim (λ j. ⊎_map (Contains-append_left s t x) (prefix x) (h.others x j))
           (λ j. ⊎_map (Contains-append_right s t x) (back x) (i.others x j)) (Contains-append_cases f g x k);
       light = λ w.
           ⊎_elim (λ j. ⊎_map (λ k. within_both a b p q w j k) (back (crowd_fault w)) (i.light w))
-          (λ j. inr (front (crowd_fault w) j)) (h.light w);
+          (λ j. inr (prefix (crowd_fault w) j)) (h.light w);
     }
 
 -- ---- judged parts
@@ -138,17 +138,17 @@ module _ {some faults : List Fault} {put all : List Weight} (h : AreEnough some 
               at = w;
               held = l.0 (weight_held all all f o);
               crowd = omega (arith, o.crowd, l.1);
-              behind = itself;
+              following = itself;
             } in
             inr (subst (HasCrowd put) (sym o.is) (⊎_elim own (λ c. c) (h.light w)))
 
   -- one of the faults found, which the fault is not before
-  told : (f : Fault)
+  reported : (f : Fault)
       → Contains some f ⊎ HasCrowd put f → (g : Fault) × (Contains (some ++ crowded put) g × (is_before f g ≡ false))
-  told f (inl j) = (f, (Contains-append_left some (crowded put) f j, not_before_itself f))
-  told f (inr c) = (
+  reported f (inl j) = (f, (Contains-append_left some (crowded put) f j, not_before_itself f))
+  reported f (inr c) = (
     crowd_fault c.at,
-    (Contains-append_right some (crowded put) (crowd_fault c.at) (crowd_held put c.at c.held c.crowd), c.behind),
+    (Contains-append_right some (crowded put) (crowd_fault c.at) (crowd_held put c.at c.held c.crowd), c.following),
   )
 
   crowd_kept : (f : Fault) → IsFaultOf put put f → Contains (crowded all) f
@@ -164,12 +164,12 @@ module _ {some faults : List Fault} {put all : List Weight} (h : AreEnough some 
   pub first_enough : (found : Option Fault)
       → IsFirstInOrder (some ++ crowded put) found → IsFirstInOrder (faults ++ crowded all) found
   first_enough None first = none_if (faults ++ crowded all) (λ f k.
-      let c = told f (covered f k) in
+      let c = reported f (covered f k) in
       let held = subst (λ fs. Contains fs c.0) first c.1.0 in
       absurd (omega (arith, held.1)))
   first_enough (Some x) first = record {
     held =
         held_both some (crowded put) faults (crowded all) x (h.held x) (λ k. crowd_kept x (fault_of put put x k))
         first.held;
-    least = λ f k. let c = told f (covered f k) in not_before x c.0 f (first.least c.0 c.1.0) c.1.1;
+    least = λ f k. let c = reported f (covered f k) in not_before x c.0 f (first.least c.0 c.1.0) c.1.1;
   }

@@ -3,7 +3,7 @@ use Rattle.std.proofs.Common.{◌≡◌, refl, ℕ, ◌+◌, ◌≤◌, ◌<◌,
 use Rattle.std.proofs.lemmas.Bool.{Decides.nat_tests, and_parts, or_parts, cond_both, leb-true, ltb-true}
 use Rattle.std.specs.{Prelude.{⊤, ◌==◌, ◌&&◌, nat_le, nat_lt}, List.list_any}
 use Rattle.mus_score.specs.Walks.{RiseWithin}
-use Rattle.abc_events.specs.Bars.{forced_at, forced_bars, forced_behind, forces_bar, is_near_bar, with_bar}
+use Rattle.abc_events.specs.Bars.{forced_at, forced_bars, forced_after, forces_bar, is_near_bar, with_bar}
 use Rattle.abc_score.{proofs.Basics.either, specs.{declared.voices.ReadVoice.ReadVoice, Score.forced_of}}
 use Rattle.abc_steps.specs.{Counts.{all_further, begins_group, counts_of, measure_at, nearest_at}, Looks.Steps}
 use Rattle.abc_steps.specs.declared.{step.{Step.Step, PlacedStep.PlacedStep}, counts.Counts.Counts}
@@ -28,9 +28,9 @@ below_new b top bar new within less = grind (arith, nat_tests)
 with_last : (from n top bar : ℕ) (bs : List ℕ) → list_any (λ b. b == bar) bs ≡ false → from < bar → bar < n → top ≤ bar
     → Rises from n top bs → Rises from n bar (bs ++ bar ∷ [])
 with_last from n top bar [] new above below less rise = (above, below, omega arith, tt)
-with_last from n top bar (b ∷ bs) new above below less (behind, before, within, rise) =
+with_last from n top bar (b ∷ bs) new above below less (following, before, within, rise) =
     let parts = or_parts (b == bar) _ new in (
-      behind,
+      following,
       before,
       omega (arith, within, less),
       with_last b n top bar bs parts.1 (below_new b top bar parts.0 within less) below less rise,
@@ -47,8 +47,8 @@ inside bar n e =
     let parts = and_parts _ _ e in (leb-true 1 bar parts.0, ltb-true bar n parts.1)
 
 step_rises : (n : ℕ) (counts : Counts) (s : Step) (bs : List ℕ) → Rises 0 n (counts.groups + counts.further) bs
-    → Rises 0 n (counts.groups + counts.further) (forced_behind n counts s bs)
-unfolding forced_behind
+    → Rises 0 n (counts.groups + counts.further) (forced_after n counts s bs)
+unfolding forced_after
 step_rises n counts Step.Break bs rise =
     let bar = counts.groups + counts.further in
     cond_both (forces_bar n counts) _ _ (Rises 0 n bar) (λ e.

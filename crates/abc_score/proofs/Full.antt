@@ -9,7 +9,7 @@ use Rattle.abc_notes.specs.declared.part.GraceChord.{GraceChord}
 use Rattle.mus_score.specs.declared.score.Music.{Music}
 use Rattle.mus_score.specs.Good.{outside}
 use Rattle.abc_music.specs.Good.{AreGoodGraces, HasGraceHead}
-use Rattle.abc_faults.specs.Faults.{ends_tuplets, faults_in, faults_of, is_free, sounds_behind}
+use Rattle.abc_faults.specs.Faults.{ends_tuplets, faults_in, faults_of, is_free, sounds_after}
 use Rattle.abc_steps.specs.declared.step.Step.{Step}
 use Rattle.abc_steps.specs.declared.step.PlacedStep.{PlacedStep}
 use Rattle.abc_steps.specs.declared.force.InForce.{InForce}
@@ -30,7 +30,7 @@ use Rattle.abc_events.specs.Measures.{leaves_in}
 use Rattle.abc_events.specs.Leaf.{Leaf}
 use Rattle.abc_score.proofs.Judging.{IsFew, rest_good, rest_values, sound_good, sound_some}
 use Rattle.abc_score.proofs.Nested.{HasSome, IsGoodAt, IsRatio, WellNested}
-use Rattle.abc_score.proofs.Basics.{back_all, either, front_all, none_before, none_behind}
+use Rattle.abc_score.proofs.Basics.{back_all, either, prefix_all, none_before, none_after}
 use Rattle.abc_score.proofs.Clear.{rest_clear, sound_clear}
 use Rattle.abc_score.proofs.Since.{all_wait, each_at}
 use Rattle.abc_score.proofs.Walks.{Enough, next_enough, none_open, open_with, sound_parts, sounds_on, tuplet_clear}
@@ -122,34 +122,34 @@ module _ (words : List Words) (k : ℕ) where
       (rests_full now at seen (measure + 1) n rest held good h (j + 1) _)
 
   module _ (first : InForce) where
-    step_full : (before behind : Steps) (at : PlacedStep) (s : Step) (rest : List TreeItem)
+    step_full : (before following : Steps) (at : PlacedStep) (s : Step) (rest : List TreeItem)
         → IsGoodForce (force_at first before)
         → AllByRecursion IsGoodPlacedStep before → IsGoodStep s
-        → faults_of (state_at first before) before at behind s ≡ []
-        → AllByRecursion HasDrawableValues (tree_items_of (state_at first before) before at behind s)
-        → Enough (open_tuplets_at before) (cond (ends_tuplets s) 0 (cond (is_sound s) 1 0 + sounds_behind behind))
+        → faults_of (state_at first before) before at following s ≡ []
+        → AllByRecursion HasDrawableValues (tree_items_of (state_at first before) before at following s)
+        → Enough (open_tuplets_at before) (cond (ends_tuplets s) 0 (cond (is_sound s) 1 0 + sounds_after following))
         → AreNested
         (cond (begins_group s (nearest_at before)) (groups before + 1) (groups before)
         + (all_further before + further_measures s))
         (open_tuplets_after s (open_tuplets_at before)) rest
         → AreNested (measure_at before) (open_tuplets_at before)
-        (tree_items_of (state_at first before) before at behind s ++ rest)
+        (tree_items_of (state_at first before) before at following s ++ rest)
     unfolding tree_items_of faults_of sound_written rest_written begins_group further_measures open_tuplets_after
         ends_tuplets is_sound
-    step_full before behind at (Step.Sound s) rest force goods good e drawn enough h j id =
-        let now = state_at first before in let w = sound_written now before at s behind in
+    step_full before following at (Step.Sound s) rest force goods good e drawn enough h j id =
+        let now = state_at first before in let w = sound_written now before at s following in
         let waiting = pending_of now.force (since_event before) s.decos in
         let graces = waiting_graces now.force before s.decos goods in
-        let clear = sound_clear now before behind at s e in
+        let clear = sound_clear now before following at s e in
         at_leaf k _ _ (open_tuplets_at before) _ _ _ (no_further before) (λ h. (
           open_with _ _ enough,
           sound_good (open_tuplets_at before) w waiting (words_of_event words j) id refl
               (recursion_from_All IsFew w.values drawn.0) graces,
-          sound_some _ w waiting _ id (sound_parts now before behind at s force.unit good clear),
+          sound_some _ w waiting _ id (sound_parts now before following at s force.unit good clear),
           h,
         )) (h (j + 1) _)
-    step_full before behind at (Step.Measures seen count) rest force goods good e drawn enough h j id =
-        let now = state_at first before in let clear = rest_clear now before behind at seen count e in
+    step_full before following at (Step.Measures seen count) rest force goods good e drawn enough h j id =
+        let now = state_at first before in let clear = rest_clear now before following at seen count e in
         let parted = parted_at now (since_event before) in let waiting = pending_of now.force (since_event before) [] in
         let w = rest_written now at seen (measure_of now) parted in
         let graces = waiting_graces now.force before [] goods in
@@ -162,37 +162,37 @@ module _ (words : List Words) (k : ℕ) where
         (rests_full now at seen (measure_of now + 1) (count - 1) rest clear.metered force.meter (to_nothing _ rest h)
         (j + 1) _))
         j id
-    step_full before behind at (Step.Bar bar) rest force goods good e drawn enough h j id =
+    step_full before following at (Step.Bar bar) rest force goods good e drawn enough h j id =
         from_nothing _ _ rest enough (to_nothing _ rest h) j id
-    step_full before behind at (Step.Tuplet p q r) rest force goods good e drawn enough h j id =
-        let now = state_at first before in let clear = tuplet_clear (or_default p r) now.taking at behind e in
+    step_full before following at (Step.Tuplet p q r) rest force goods good e drawn enough h j id =
+        let now = state_at first before in let clear = tuplet_clear (or_default p r) now.taking at following e in
         let takes = default_within (usual_q p now.force.meter) q (usual_within p now.force.meter) good.q_high in
         let ratio : IsRatio p (or_default (usual_q p now.force.meter) q) =
         record { p_low = good.p_low; p_high = good.p_high; q_low = takes.0; q_high = takes.1 } in
         rw clear.0
         (at_leaf k _ _ (open_tuplets_at before) _ _ _ (no_further before)
         (λ h. (open_with _ _ enough, clear.0, ratio, h)) (h j id))
-    step_full before behind at _ rest force goods good e drawn enough h j id =
+    step_full before following at _ rest force goods good e drawn enough h j id =
         subst (λ i. WellNested (taken_in k i (open_tuplets_at before)) (leaves_in k (leaves_from words j id rest)))
         (no_further before) (h j id)
 
     -- ---- all steps
-    walk_full : (before behind : Steps)
-        → IsGoodForce first → AllByRecursion IsGoodPlacedStep before → AllByRecursion IsGoodPlacedStep behind
-        → faults_in first before behind ≡ []
-        → AllByRecursion HasDrawableValues (signs first before behind)
-        → Enough (open_tuplets_at before) (sounds_behind behind)
-        → AreNested (measure_at before) (open_tuplets_at before) (signs first before behind)
-    unfolding sounds_behind
+    walk_full : (before following : Steps)
+        → IsGoodForce first → AllByRecursion IsGoodPlacedStep before → AllByRecursion IsGoodPlacedStep following
+        → faults_in first before following ≡ []
+        → AllByRecursion HasDrawableValues (signs first before following)
+        → Enough (open_tuplets_at before) (sounds_after following)
+        → AreNested (measure_at before) (open_tuplets_at before) (signs first before following)
+    unfolding sounds_after
     walk_full before [] force good goods e drawn enough = from_nothing _ _ [] enough (λ j id. refl)
-    walk_full before (at ∷ behind) force good goods e drawn enough =
-        let suffices = subst (Enough (open_tuplets_at before)) (sounds_on at behind) enough in
+    walk_full before (at ∷ following) force good goods e drawn enough =
+        let suffices = subst (Enough (open_tuplets_at before)) (sounds_on at following) enough in
         let clear = none_before _ _ e in
-        step_full before behind at at.step _ (walk_force first before force good) good goods.0 clear
-        (front_all HasDrawableValues _ _ drawn) suffices
-        (walk_full (at ∷ before) behind force (goods.0, good) goods.1 (none_behind _ _ e)
+        step_full before following at at.step _ (walk_force first before force good) good goods.0 clear
+        (prefix_all HasDrawableValues _ _ drawn) suffices
+        (walk_full (at ∷ before) following force (goods.0, good) goods.1 (none_after _ _ e)
         (back_all HasDrawableValues _ _ drawn)
-        (next_enough (state_at first before) before behind at at.step goods.0 clear suffices))
+        (next_enough (state_at first before) before following at at.step goods.0 clear suffices))
 
     pub all_full : (steps : Steps)
         → IsGoodForce first → AllByRecursion IsGoodPlacedStep steps → faults_in first [] steps ≡ []

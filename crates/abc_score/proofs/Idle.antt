@@ -21,39 +21,39 @@ use Rattle.abc_faults.specs.declared.weights.Weight.{Weight}
 use Rattle.abc_score.specs.Judged.{is_idle}
 use Rattle.abc_score.proofs.Stops.{IsAt}
 
-pub record IsIdleAt (first : InForce) (before : Steps) (at : PlacedStep) (behind : Steps) : Type 0 where
-  pub faults : faults_of (state_at first before) before at behind at.step ≡ []
-  pub weights : weights_of (state_at first before) before at behind at.step ≡ []
-  pub signs : tree_items_of (state_at first before) before at behind at.step ≡ []
+pub record IsIdleAt (first : InForce) (before : Steps) (at : PlacedStep) (following : Steps) : Type 0 where
+  pub faults : faults_of (state_at first before) before at following at.step ≡ []
+  pub weights : weights_of (state_at first before) before at following at.step ≡ []
+  pub signs : tree_items_of (state_at first before) before at following at.step ≡ []
   pub place : state_at first (at ∷ before) ≡ state_at first before
 
 with_further : (now : VoiceState) (n : ℕ)
     → n ≡ now.counts.further → record now { counts = record now.counts { further = n } } ≡ now
 with_further now n e = ap (λ k. record now { counts = record now.counts { further = k } }) e
 
-of_kind : (first : InForce) (before behind : Steps) (s : Step) (line column : ℕ) → is_idle s ≡ true
-    → IsIdleAt first before (record { step = s; line = line; column = column }) behind
+of_kind : (first : InForce) (before following : Steps) (s : Step) (line column : ℕ) → is_idle s ≡ true
+    → IsIdleAt first before (record { step = s; line = line; column = column }) following
 unfolding is_idle faults_of weights_of tree_items_of is_event is_bar begins_group further_measures force_after
     open_tuplets_after
-of_kind first before behind (Step.Sound s) line column e = absurd cc
-of_kind first before behind (Step.Measures seen count) line column e = absurd cc
-of_kind first before behind (Step.Tuplet p q r) line column e = absurd cc
-of_kind first before behind (Step.Broken right dots) line column e = absurd cc
-of_kind first before behind (Step.Bar bar) line column e = absurd cc
-of_kind first before behind (Step.Key text) line column e = absurd cc
-of_kind first before behind (Step.Meter meter) line column e = absurd cc
-of_kind first before behind (Step.Unit unit) line column e = absurd cc
-of_kind first before behind (Step.Clef clef) line column e = absurd cc
-of_kind first before behind _ line column e = record {
+of_kind first before following (Step.Sound s) line column e = absurd cc
+of_kind first before following (Step.Measures seen count) line column e = absurd cc
+of_kind first before following (Step.Tuplet p q r) line column e = absurd cc
+of_kind first before following (Step.Broken right dots) line column e = absurd cc
+of_kind first before following (Step.Bar bar) line column e = absurd cc
+of_kind first before following (Step.Key text) line column e = absurd cc
+of_kind first before following (Step.Meter meter) line column e = absurd cc
+of_kind first before following (Step.Unit unit) line column e = absurd cc
+of_kind first before following (Step.Clef clef) line column e = absurd cc
+of_kind first before following _ line column e = record {
   faults = refl;
   weights = refl;
   signs = refl;
   place = with_further (state_at first before) _ (omega arith);
 }
 
-pub idle_at : (first : InForce) (before : Steps) (at : PlacedStep) (behind : Steps)
-    → is_idle at.step ≡ true → IsIdleAt first before at behind
-idle_at first before at behind e = of_kind first before behind at.step at.line at.column e
+pub idle_at : (first : InForce) (before : Steps) (at : PlacedStep) (following : Steps)
+    → is_idle at.step ≡ true → IsIdleAt first before at following
+idle_at first before at following e = of_kind first before following at.step at.line at.column e
 
 pub idle_so_far : {found : Option Fault} {old new : List Weight} (first : InForce) (steps : Steps) (i : ℕ)
     (at : PlacedStep)
@@ -62,10 +62,11 @@ pub idle_so_far : {found : Option Fault} {old new : List Weight} (first : InForc
     → IsAt first steps (reverse (take i steps)) (drop i steps) found old new
     → IsAt first steps (reverse (take (i + 1) steps)) (drop (i + 1) steps) found old new
 idle_so_far first steps i at less is e h =
-    let before = reverse (take (i + 1) steps) in let behind = drop (i + 1) steps in
-    let idle = idle_at first (reverse (take i steps)) at behind e in
-    let faults = walk_parts first steps i at less is ∙ ap (λ z. z ++ faults_in first before behind) idle.faults in
-    let weights = weigh_parts first steps i at less is ∙ ap (λ z. z ++ weights_in first before behind) idle.weights in
+    let before = reverse (take (i + 1) steps) in let following = drop (i + 1) steps in
+    let idle = idle_at first (reverse (take i steps)) at following e in
+    let faults = walk_parts first steps i at less is ∙ ap (λ z. z ++ faults_in first before following) idle.faults in
+    let weights =
+    weigh_parts first steps i at less is ∙ ap (λ z. z ++ weights_in first before following) idle.weights in
     record {
       some = h.some;
       weights = h.weights;

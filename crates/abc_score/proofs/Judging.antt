@@ -13,7 +13,7 @@ use Rattle.abc_steps.specs.declared.tuplets.OpenTuplets.{OpenTuplets}
 use Rattle.abc_steps.specs.declared.state.VoiceState.{VoiceState as Stand}
 use Rattle.abc_steps.specs.Force.{meter_ticks}
 use Rattle.abc_score.proofs.Rows.{at_note, at_rest, at_grace}
-use Rattle.abc_score.proofs.Nested.{IsGoodAt, HasSome, place_of, good_append, some_behind}
+use Rattle.abc_score.proofs.Nested.{IsGoodAt, HasSome, place_of, good_append, some_after}
 use Rattle.abc_score.proofs.Singing.{parts_some}
 use Rattle.mus_units.specs.declared.note.Head.{Head}
 use Rattle.mus_units.specs.declared.key.Meter.{Meter}
@@ -143,7 +143,7 @@ pub sound_some : (at : NodeContext) (w : WrittenEvent) (waiting : Pending) (word
     → 1 ≤ length w.values
     → HasSome at (nodes_of w waiting words id)
 sound_some at w waiting words id some =
-    some_behind at (grace_nodes waiting.graces waiting.slash) _
+    some_after at (grace_nodes waiting.graces waiting.slash) _
     (some_at at _ (parts_some w waiting words id w.values some))
 
 -- ---- a whole measure rest

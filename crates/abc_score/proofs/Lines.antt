@@ -60,7 +60,7 @@ end_at breaks line (Some fault) = tt
 
 line_at : (breaks : Breaks) (line : Line) (kind : LineKind) (given : List ItemOrFault)
     → KindGives breaks line kind given → AreAt line.number given
-line_at breaks line LineKind.Music given (tokens, fault, front, is) =
+line_at breaks line LineKind.Music given (tokens, fault, prefix, is) =
     rw is (both_at line.number (flat_map (placed_given breaks line) tokens) _ (tokens_at breaks line tokens)
     (end_at breaks line fault))
 line_at breaks line _ given is = rw is (given_at (field_of line.text) line.number 1)
@@ -113,15 +113,16 @@ from_zero : (lines : List Line) → IsUnder 0 lines
 from_zero [] = tt
 from_zero (line ∷ lines) = omega arith
 
-rise_behind : (lines : List Line) (k : ℕ) → NumbersRise lines → NumbersRise (drop k lines)
-rise_behind lines zero rise = rise
-rise_behind [] (suc k) rise = tt
-rise_behind (line ∷ lines) (suc k) rise = rise_behind lines k (others_rise line lines rise)
+rise_after : (lines : List Line) (k : ℕ) → NumbersRise lines → NumbersRise (drop k lines)
+rise_after lines zero rise = rise
+rise_after [] (suc k) rise = tt
+rise_after (line ∷ lines) (suc k) rise = rise_after lines k (others_rise line lines rise)
 
-pub words_rise_behind : {header : Header} {behind : List Line} {items found : List BodyItem} (lines : List Line) (k : ℕ)
+pub words_rise_after : {header : Header} {following : List Line} {items found : List BodyItem} (lines : List Line)
+    (k : ℕ)
     → NumbersRise lines
-    → behind ≡ drop k lines → IsBody header behind items → found ≡ items → DoWordsRise found
-words_rise_behind {header = header} {behind = behind} lines k rise cut body same =
-    let own = subst NumbersRise (sym cut) (rise_behind lines k rise) in
+    → following ≡ drop k lines → IsBody header following items → found ≡ items → DoWordsRise found
+words_rise_after {header = header} {following = following} lines k rise cut body same =
+    let own = subst NumbersRise (sym cut) (rise_after lines k rise) in
     subst DoWordsRise (sym (same ∙ body.are))
-    (given_rise header.breaks behind body.given 0 body.gives_so own (from_zero behind))
+    (given_rise header.breaks following body.given 0 body.gives_so own (from_zero following))

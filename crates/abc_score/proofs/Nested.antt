@@ -37,9 +37,9 @@ pub some_append : (at : NodeContext) (xs ys : List Music) → HasSome at xs → 
 some_append at [] ys a = absurd cc
 some_append at (x ∷ xs) ys a = or_more _ _ _ a (some_append at xs ys)
 
-pub some_behind : (at : NodeContext) (xs ys : List Music) → HasSome at ys → HasSome at (xs ++ ys)
-some_behind at [] ys a = a
-some_behind at (x ∷ xs) ys a = or_right (judged_within x at).some _ (some_behind at xs ys a)
+pub some_after : (at : NodeContext) (xs ys : List Music) → HasSome at ys → HasSome at (xs ++ ys)
+some_after at [] ys a = a
+some_after at (x ∷ xs) ys a = or_right (judged_within x at).some _ (some_after at xs ys a)
 
 -- ---- tuplets
 
@@ -86,13 +86,13 @@ IsOpen (OpenTuplets.Nested inner outer) = (1 ≤ inner) × (inner ≤ outer)
 pub record FineOne (left : ℕ) (f : Forest) : Type 0 where
   pub taken : IsGoodAt (within 1) (music_of (cut left f).taken)
   pub some : HasSome (within 1) (music_of (cut left f).taken)
-  pub behind : IsGoodAt outside (music_of (cut left f).left)
+  pub following : IsGoodAt outside (music_of (cut left f).left)
 
 pub record FineTwo (inner rest : ℕ) (f : Forest) : Type 0 where
   pub taken : IsGoodAt (within 0) (music_of (cut inner f).taken)
   pub some : HasSome (within 0) (music_of (cut inner f).taken)
   pub others : IsGoodAt (within 1) (music_of (cut rest (cut inner f).left).taken)
-  pub behind : IsGoodAt outside (music_of (cut rest (cut inner f).left).left)
+  pub following : IsGoodAt outside (music_of (cut rest (cut inner f).left).left)
 
 abbrev pub Fine : OpenTuplets → Forest → Type 0
 Fine OpenTuplets.Nothing f = IsGoodAt outside (music_of f)
@@ -107,23 +107,23 @@ two_left : (m n r s : ℕ) → m ≡ suc (suc r) → n ≡ suc s
     → cond (nat_le m 1) (one_less n) (OpenTuplets.Nested (m - 1) (n - 1)) ≡ OpenTuplets.Nested (suc r) s
 two_left m n r s is also = grind (arith, nat_tests)
 
-behind_one : (r : ℕ) (f : Forest) → Fine (one_less (suc r)) f
+after_one : (r : ℕ) (f : Forest) → Fine (one_less (suc r)) f
     → IsGoodAt (within 1) (music_of (cut r f).taken) × IsGoodAt outside (music_of (cut r f).left)
-behind_one zero f fine = (refl, fine)
-behind_one (suc r) f fine = let own = subst (λ t. Fine t f) (one_left _ r refl) fine in (own.taken, own.behind)
+after_one zero f fine = (refl, fine)
+after_one (suc r) f fine = let own = subst (λ t. Fine t f) (one_left _ r refl) fine in (own.taken, own.following)
 
-behind_two : (r s rest : ℕ) (f : Forest)
+after_two : (r s rest : ℕ) (f : Forest)
     → s ≡ r + rest → Fine (cond (nat_le (suc r) 1) (one_less (suc s)) (OpenTuplets.Nested (suc r - 1) (suc s - 1))) f
     → IsGoodAt (within 0) (music_of (cut r f).taken) × IsGoodAt (within 1) (music_of (cut rest (cut r f).left).taken)
     × IsGoodAt outside (music_of (cut rest (cut r f).left).left)
-behind_two zero s rest f is fine =
+after_two zero s rest f is fine =
     let same : s ≡ rest = omega arith in
-    let own = behind_one rest f (subst (λ n. Fine (one_less (suc n)) f) same fine) in
+    let own = after_one rest f (subst (λ n. Fine (one_less (suc n)) f) same fine) in
     (refl, own.0, own.1)
-behind_two (suc r) s rest f is fine =
+after_two (suc r) s rest f is fine =
     let same : s - suc r ≡ rest = omega arith in
     let own = subst (λ n. FineTwo (suc r) n f) same (subst (λ t. Fine t f) (two_left _ _ r s refl refl) fine) in
-    (own.taken, own.others, own.behind)
+    (own.taken, own.others, own.following)
 
 event_fine : (t : OpenTuplets) (nodes : List Music) (f : Forest)
     → IsOpen t → IsGoodAt (place_of t) nodes → HasSome (place_of t) nodes
@@ -133,17 +133,17 @@ unfolding after_event
 event_fine OpenTuplets.Nothing nodes f is good some fine = good_append outside nodes (music_of f) good fine
 event_fine (OpenTuplets.Single zero) nodes f is good some fine = absurd (omega (arith, is))
 event_fine (OpenTuplets.Single (suc r)) nodes f is good some fine =
-    let own = behind_one r f fine in
-    record { taken = good_append _ nodes _ good own.0; some = some_append _ nodes _ some; behind = own.1 }
+    let own = after_one r f fine in
+    record { taken = good_append _ nodes _ good own.0; some = some_append _ nodes _ some; following = own.1 }
 event_fine (OpenTuplets.Nested zero outer) nodes f is good some fine = absurd (omega (arith, is.0))
 event_fine (OpenTuplets.Nested (suc r) zero) nodes f is good some fine = absurd (omega (arith, is.1))
 event_fine (OpenTuplets.Nested (suc r) (suc s)) nodes f is good some fine =
-    let own = behind_two r s (suc s - suc r) f (omega (arith, is.1)) fine in
+    let own = after_two r s (suc s - suc r) f (omega (arith, is.1)) fine in
     record {
       taken = good_append _ nodes _ good own.0;
       some = some_append _ nodes _ some;
       others = own.1;
-      behind = own.2;
+      following = own.2;
     }
 
 opens_fine : (t : OpenTuplets) (p q r : ℕ) (f : Forest)
@@ -151,14 +151,14 @@ opens_fine : (t : OpenTuplets) (p q r : ℕ) (f : Forest)
     → Fine t (group p q r (cut r f).taken (cut r f).left)
 unfolding fits
 opens_fine OpenTuplets.Nothing p q r f is fit ratio fine =
-    group_good 1 false p q _ _ fine.some ratio fine.taken fine.behind
+    group_good 1 false p q _ _ fine.some ratio fine.taken fine.following
 opens_fine (OpenTuplets.Single zero) p q r f is fit ratio fine = absurd (omega (arith, is))
 opens_fine (OpenTuplets.Single (suc l)) p q r f is fit ratio fine =
     let own = subst (λ b. Fine (cond b (OpenTuplets.Nested r (suc l)) (OpenTuplets.Single (suc l))) f) fit fine in
     record {
       taken = group_good 0 true p q _ _ own.some ratio own.taken own.others;
       some = group_some 0 true p q _ _ own.some;
-      behind = own.behind;
+      following = own.following;
     }
 opens_fine (OpenTuplets.Nested inner outer) p q r f is fit ratio fine = absurd cc
 

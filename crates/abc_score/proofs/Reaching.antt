@@ -22,7 +22,7 @@ use Rattle.abc_signs.specs.Signs.{further_rests, rest_written, signs, tree_items
 use Rattle.abc_signs.specs.Signs.{with_tie}
 use Rattle.abc_signs.specs.Waits.{graces_in, pending_of}
 use Rattle.abc_signs.specs.declared.written.TreeItem.{TreeItem}
-use Rattle.abc_score.proofs.Basics.{all_both, with_tuplet, none_before, none_behind}
+use Rattle.abc_score.proofs.Basics.{all_both, with_tuplet, none_before, none_after}
 use Rattle.abc_score.proofs.Clear.{no_fault, rest_clear, sound_clear}
 use Rattle.abc_score.proofs.{Parts.{SignsReach, heads_reach, DoReach}, Since.{since_none, since_on}}
 
@@ -36,9 +36,10 @@ all_reach clef (h ∷ hs) e =
     let parts = or_parts (is_off clef h) _ e in let own = or_parts _ _ parts.0 in
     (height_reach (height_of h.pitch clef) own.0 own.1, all_reach clef hs parts.1)
 
-tied_reach : (clef : Clef) (hs : List Head) (behind : Steps) → DoReach clef hs → DoReach clef (tied_heads hs behind)
-tied_reach clef [] behind all = tt
-tied_reach clef (h ∷ hs) behind all = heads_reach clef (with_tie (is_sound_tied behind)) (λ h is. is) (h ∷ hs) all
+tied_reach : (clef : Clef) (hs : List Head) (following : Steps)
+    → DoReach clef hs → DoReach clef (tied_heads hs following)
+tied_reach clef [] following all = tt
+tied_reach clef (h ∷ hs) following all = heads_reach clef (with_tie (is_sound_tied following)) (λ h is. is) (h ∷ hs) all
 
 abbrev GracesReach : Clef → List GraceChord → Type 0
 GracesReach clef gs = AllByRecursion (λ (g : GraceChord). DoReach clef g.heads) gs
@@ -59,7 +60,7 @@ waits_reach : (clef : Clef) (waits : Steps)
 waits_reach clef [] e = tt
 waits_reach clef (s ∷ waits) e =
     all_both (λ (g : GraceChord). DoReach clef g.heads) _ _ (step_graces clef s s.step (none_before _ _ e))
-    (waits_reach clef waits (none_behind _ _ e))
+    (waits_reach clef waits (none_after _ _ e))
 
 waiting_reach : (clef : Clef) (now : InForce) (waits : Steps) (decos : List Deco) → grace_faults clef waits ≡ []
     → GracesReach clef (pending_of now waits decos).graces
@@ -130,25 +131,25 @@ unfolding rest_written
 further_reach clef now at seen measure zero rest h = h
 further_reach clef now at seen measure (suc n) rest h = (tt, tt, further_reach clef now at seen (measure + 1) n rest h)
 
-step_reach : (first : InForce) (before behind : Steps) (at : PlacedStep) (s : Step) (rest : List TreeItem)
-    → faults_of (state_at first before) before at behind s ≡ []
+step_reach : (first : InForce) (before following : Steps) (at : PlacedStep) (s : Step) (rest : List TreeItem)
+    → faults_of (state_at first before) before at following s ≡ []
     → SignsReach (cond (is_event s) (force_at first before).clef (event_clef first before)) rest
-    → SignsReach (event_clef first before) (tree_items_of (state_at first before) before at behind s ++ rest)
+    → SignsReach (event_clef first before) (tree_items_of (state_at first before) before at following s ++ rest)
 unfolding tree_items_of sound_written rest_written is_event
-step_reach first before behind at (Step.Sound s) rest e h =
+step_reach first before following at (Step.Sound s) rest e h =
     let now = force_at first before in
     let waits = since_event before in
-    let clear = sound_clear (state_at first before) before behind at s e in
+    let clear = sound_clear (state_at first before) before following at s e in
     subst (λ (c : Clef).
-    DoReach c (tied_heads s.heads behind) × GracesReach c (pending_of now waits s.decos).graces × SignsReach c rest)
+    DoReach c (tied_heads s.heads following) × GracesReach c (pending_of now waits s.decos).graces × SignsReach c rest)
     (sym (waiting_clef first before s.decos)) (
-      tied_reach now.clef s.heads behind (all_reach now.clef s.heads clear.near),
+      tied_reach now.clef s.heads following (all_reach now.clef s.heads clear.near),
       waiting_reach now.clef now waits s.decos clear.graces,
       h,
     )
-step_reach first before behind at (Step.Measures seen count) rest e h =
+step_reach first before following at (Step.Measures seen count) rest e h =
     let place = state_at first before in let now = place.force in let waits = since_event before in
-    let clear = rest_clear place before behind at seen count e in
+    let clear = rest_clear place before following at seen count e in
     let others = further_rests place at seen (measure_of place + 1) (count - 1) ++ rest in
     subst (λ (c : Clef). DoReach c [] × GracesReach c (pending_of now waits []).graces × SignsReach c others)
     (sym (waiting_clef first before [])) (
@@ -156,16 +157,16 @@ step_reach first before behind at (Step.Measures seen count) rest e h =
       waiting_reach now.clef now waits [] clear.graces,
       further_reach now.clef place at seen (measure_of place + 1) (count - 1) rest h,
     )
-step_reach first before behind at (Step.Tuplet p q r) rest e h =
+step_reach first before following at (Step.Tuplet p q r) rest e h =
     with_tuplet (λ z. SignsReach (event_clef first before) (z ++ rest)) (state_at first before) p q r (λ m x y z. h) h
-step_reach first before behind at _ rest e h = h
+step_reach first before following at _ rest e h = h
 
-walk_reach : (first : InForce) (before behind : Steps) → faults_in first before behind ≡ []
-    → SignsReach (event_clef first before) (signs first before behind)
+walk_reach : (first : InForce) (before following : Steps) → faults_in first before following ≡ []
+    → SignsReach (event_clef first before) (signs first before following)
 walk_reach first before [] e = tt
-walk_reach first before (at ∷ behind) e =
-    step_reach first before behind at at.step _ (none_before _ _ e)
-    (walk_reach first (at ∷ before) behind (none_behind _ _ e))
+walk_reach first before (at ∷ following) e =
+    step_reach first before following at at.step _ (none_before _ _ e)
+    (walk_reach first (at ∷ before) following (none_after _ _ e))
 
 pub voice_reach : (first : InForce) (steps : Steps)
     → faults_in first [] steps ≡ [] → SignsReach first.clef (signs first [] steps)

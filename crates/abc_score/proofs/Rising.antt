@@ -38,12 +38,13 @@ begun_grows s before =
     let low = begun_le before in
     either (λ n. measures_begun before ≤ n) (is_event s.step) _ _ (omega (arith, low)) (omega arith)
 
-begun_walk : (behind before : Steps) → measures_begun before ≤ measures_begun (reverse behind ++ before)
+begun_walk : (following before : Steps) → measures_begun before ≤ measures_begun (reverse following ++ before)
 begun_walk [] before = omega arith
-begun_walk (at ∷ behind) before =
-    let same : measures_begun (reverse behind ++ (at ∷ before)) ≡ measures_begun (reverse (at ∷ behind) ++ before) =
-    ap measures_begun (turned at behind before) in
-    omega (arith, begun_walk behind (at ∷ before), begun_grows at before, same)
+begun_walk (at ∷ following) before =
+    let same : measures_begun (reverse following ++ (at ∷ before))
+    ≡ measures_begun (reverse (at ∷ following) ++ before) =
+    ap measures_begun (turned at following before) in
+    omega (arith, begun_walk following (at ∷ before), begun_grows at before, same)
 
 -- ---- one more step
 module _ (words : List Words) (first : InForce) (top : ℕ) where
@@ -64,36 +65,36 @@ module _ (words : List Words) (first : InForce) (top : ℕ) where
     further_rise now at seen (low + 1) n end rest (omega (arith, e)) less rise (k + 1) _,
   )
 
-  step_rise : (before behind : Steps) (at : PlacedStep) (s : Step) (rest : List TreeItem)
+  step_rise : (before following : Steps) (at : PlacedStep) (s : Step) (rest : List TreeItem)
       → cond (is_event s) (measure_at before + further_measures s + 1) 0 ≤ top
       → DoRise (measure_at before + further_measures s) rest
-      → DoRise (measure_at before) (tree_items_of (state_at first before) before at behind s ++ rest)
+      → DoRise (measure_at before) (tree_items_of (state_at first before) before at following s ++ rest)
   unfolding tree_items_of sound_written rest_written is_event further_measures
-  step_rise before behind at (Step.Sound s) rest less rise k id = (
+  step_rise before following at (Step.Sound s) rest less rise k id = (
     omega arith,
     omega (arith, less),
     lower (measure_at before) (measure_at before + 0) rest (omega arith) rise (k + 1) _,
   )
-  step_rise before behind at (Step.Measures seen count) rest less rise k id =
+  step_rise before following at (Step.Measures seen count) rest less rise k id =
       let others = further_rise (state_at first before) at seen (measure_at before) (count - 1) _ rest refl
       (omega (arith, less)) rise in
       (omega arith, omega (arith, less), others (k + 1) _)
-  step_rise before behind at (Step.Tuplet p q r) rest less rise k id =
+  step_rise before following at (Step.Tuplet p q r) rest less rise k id =
       let others = lower (measure_at before) (measure_at before + 0) rest (omega arith) rise in
       with_tuplet (λ z. DoRise (measure_at before) (z ++ rest)) (state_at first before) p q r (λ m x y z. others) others
       k id
-  step_rise before behind at _ rest less rise k id =
+  step_rise before following at _ rest less rise k id =
       lower (measure_at before) (measure_at before + 0) rest (omega arith) rise k id
 
-  walk_rise : (before behind : Steps)
-      → measures_begun (reverse behind ++ before) ≤ top → DoRise (measure_at before) (signs first before behind)
+  walk_rise : (before following : Steps)
+      → measures_begun (reverse following ++ before) ≤ top → DoRise (measure_at before) (signs first before following)
   walk_rise before [] less k id = tt
-  walk_rise before (at ∷ behind) less k id =
-      let all = subst (λ (z : Steps). measures_begun z ≤ top) (sym (turned at behind before)) less in
-      let here : measures_begun (at ∷ before) ≤ top = omega (arith, begun_walk behind (at ∷ before), all) in
-      step_rise before behind at at.step _ (event_within (is_event at.step) _ _ here)
-      (lower _ (measure_at (at ∷ before)) (signs first (at ∷ before) behind) (more_at at before)
-      (walk_rise (at ∷ before) behind all))
+  walk_rise before (at ∷ following) less k id =
+      let all = subst (λ (z : Steps). measures_begun z ≤ top) (sym (turned at following before)) less in
+      let here : measures_begun (at ∷ before) ≤ top = omega (arith, begun_walk following (at ∷ before), all) in
+      step_rise before following at at.step _ (event_within (is_event at.step) _ _ here)
+      (lower _ (measure_at (at ∷ before)) (signs first (at ∷ before) following) (more_at at before)
+      (walk_rise (at ∷ before) following all))
       k id where
         event_within : (b : Bool) (m n : ℕ) → cond b m n ≤ top → cond b m 0 ≤ top
         event_within true m n less = less

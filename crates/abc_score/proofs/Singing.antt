@@ -66,7 +66,7 @@ group_sings gs slash e es =
     let more = map leaves_within (map node_of es) in
     let is_grace = at_grace leaves_step body slash in
     let grace : Leafing = leaves_step (Music-F.Grace (map leaves_within body) slash) in
-    let own = node_leaf e.heads e in let behind = plain_sings es in
+    let own = node_leaf e.heads e in let following = plain_sings es in
     let found = map (λ f. f.event) (in_row (map leaves_within body) 1 1 no_pending_leaf).flats in
     record {
       cores = λ qs ps w none.
@@ -74,11 +74,11 @@ group_sings gs slash e es =
           ∙ ap (λ (l : Leafing). map core (in_row (grace ∷ l ∷ more) qs ps w).flats) own
           ∙ ap (λ (z : List Event). (e, z ++ found) ∷ map core (in_row more qs ps no_pending_leaf).flats) none
           ∙ ap (λ (z : List Event). (e, z) ∷ map core (in_row more qs ps no_pending_leaf).flats) (graces_in_row gs)
-          ∙ ap (λ (z : List Core). (e, map grace_of gs) ∷ z) (behind.cores qs ps no_pending_leaf refl);
+          ∙ ap (λ (z : List Core). (e, map grace_of gs) ∷ z) (following.cores qs ps no_pending_leaf refl);
       none = λ qs ps w none.
           ap (λ (l : Leafing). (in_row (l ∷ leaves_within (node_of e) ∷ more) qs ps w).waits.graces) is_grace
           ∙ ap (λ (l : Leafing). (in_row (grace ∷ l ∷ more) qs ps w).waits.graces) own
-          ∙ behind.none qs ps no_pending_leaf refl;
+          ∙ following.none qs ps no_pending_leaf refl;
     }
 
 graced_sings : (gs : List GraceChord) (slash : Bool) (es : List Event) → 1 ≤ length es

@@ -26,13 +26,13 @@ with_verse true (Some row) text low line vs less rise = (less, rise)
 with_verse true None text low line vs less rise = lower low line vs less rise
 with_verse false last text low line vs less rise = lower low line vs less rise
 
-verses_rise : (id unnamed : List ℕ) (before behind : List BodyItem) (low : ℕ) → DoWordsRiseFrom low behind
-    → DoLinesRise low (verses_from id unnamed before behind)
+verses_rise : (id unnamed : List ℕ) (before following : List BodyItem) (low : ℕ) → DoWordsRiseFrom low following
+    → DoLinesRise low (verses_from id unnamed before following)
 verses_rise id unnamed before [] low rise = tt
-verses_rise id unnamed before (BodyItem.Words text line ∷ behind) low rise =
+verses_rise id unnamed before (BodyItem.Words text line ∷ following) low rise =
     with_verse _ _ text low line _ rise.0
-    (verses_rise id unnamed (BodyItem.Words text line ∷ before) behind line rise.1)
-verses_rise id unnamed before (item ∷ behind) low rise = verses_rise id unnamed (item ∷ before) behind low rise
+    (verses_rise id unnamed (BodyItem.Words text line ∷ before) following line rise.1)
+verses_rise id unnamed before (item ∷ following) low rise = verses_rise id unnamed (item ∷ before) following low rise
 
 -- faults of verses from a line on: none of them, or the head of the list, comes before one on that line
 abbrev IsFrom : ℕ → Option Fault → Type 0
@@ -54,11 +54,12 @@ higher low high None less from = tt
 higher low high (Some f) less from = let at : high ≤ f.line = from.0 in (omega arith, from.1)
 
 -- the heads and the first faults of what follows
-heads : (low : ℕ) (before behind : List Verse) → DoLinesRise low behind
-    → let faults = faults_from before behind in (head_of faults ≡ first_of faults) × IsFrom low (head_of faults)
+heads : (low : ℕ) (before following : List Verse) → DoLinesRise low following
+    → let faults = faults_from before following in (head_of faults ≡ first_of faults) × IsFrom low (head_of faults)
 heads low before [] rise = (refl, tt)
-heads low before (v ∷ behind) rise =
-    let others = heads v.line (before ++ v ∷ []) behind rise.1 in let more = faults_from (before ++ v ∷ []) behind in
+heads low before (v ∷ following) rise =
+    let others = heads v.line (before ++ v ∷ []) following rise.1 in
+    let more = faults_from (before ++ v ∷ []) following in
     either (λ fs. (head_of (fs ++ more) ≡ first_of (fs ++ more)) × IsFrom low (head_of (fs ++ more)))
     (nat_le 8 (number_on v.row before)) (too_many v.line ∷ []) []
     (sym (head_first v.line (first_of more) (subst (IsFrom v.line) others.0 others.1)), (rise.0, refl))

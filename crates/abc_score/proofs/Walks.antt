@@ -12,7 +12,7 @@ use Rattle.mus_pitch.proofs.SignLaws.{laid_good}
 use Rattle.abc_lines.specs.declared.fault.FaultKind.{FaultKind}
 use Rattle.abc_field.specs.Keys.{GoodKeyIn, over_by}
 use Rattle.abc_signs.specs.{Signs.{further_rests, signs, tree_items_of, sound_written}, Waits.pending_of}
-use Rattle.abc_faults.specs.Faults.{ends_tuplets, step_fault, fault_if, faults_in, faults_of, misfit_of, sounds_behind}
+use Rattle.abc_faults.specs.Faults.{ends_tuplets, step_fault, fault_if, faults_in, faults_of, misfit_of, sounds_after}
 use Rattle.abc_faults.specs.Faults.{tuplet_faults}
 use Rattle.mus_units.specs.Parts.{cut_in, cut_next, longest_within, parts_list, units_of}
 use Rattle.mus_units.specs.Good.{AreGoodSigns, IsGoodKey, IsGoodMeter, IsGoodUnit}
@@ -30,7 +30,7 @@ use Rattle.abc_steps.specs.declared.step.PlacedStep.{PlacedStep}
 use Rattle.abc_steps.specs.declared.force.InForce.{InForce}
 use Rattle.abc_steps.specs.declared.state.VoiceState.{VoiceState}
 use Rattle.abc_steps.specs.declared.tuplets.OpenTuplets.{OpenTuplets}
-use Rattle.abc_score.proofs.Basics.{all_both, with_tuplet, none_before, none_behind}
+use Rattle.abc_score.proofs.Basics.{all_both, with_tuplet, none_before, none_after}
 use Rattle.abc_score.proofs.Clear.{IsClearSound, no_fault, sound_clear}
 use Rattle.abc_score.proofs.Nested.{IsOpen}
 use Rattle.abc_score.proofs.{Judging.rest_values, Parts.IsWhole}
@@ -70,11 +70,11 @@ right_some : (o : Option PlacedStep) → 1 ≤ (right_factor o).num
 unfolding right_factor right_side
 right_some o = grind arith
 
-pub sound_parts : (now : VoiceState) (before behind : Steps) (at : PlacedStep) (s : WrittenSound)
+pub sound_parts : (now : VoiceState) (before following : Steps) (at : PlacedStep) (s : WrittenSound)
     → IsGoodUnit now.force.unit → IsGoodSound s
-    → IsClearSound now before behind s → 1 ≤ length (sound_written now before at s behind).values
+    → IsClearSound now before following s → 1 ≤ length (sound_written now before at s following).values
 unfolding sound_written written_length
-sound_parts now before behind at s unit good clear =
+sound_parts now before following at s unit good clear =
     parts_some _ _
     (mul-le 1 1 _ _ (mul-le 1 1 _ _ good.some (omega (arith, unit.0))) (mul-le 1 1 _ _ (left_some _) (right_some _)))
     clear.drawn
@@ -105,50 +105,52 @@ when_good : {X : Type 0} (P : X → Type 0) (b : Bool) (x : X) → P x → IfSom
 when_good P true x good = good
 when_good P false x good = tt
 
-step_whole : (now : VoiceState) (before behind : Steps) (at : PlacedStep) (s : Step)
+step_whole : (now : VoiceState) (before following : Steps) (at : PlacedStep) (s : Step)
     → IsGoodForce now.force → IsGoodStep s
-    → faults_of now before at behind s ≡ [] → AllByRecursion IsWhole (tree_items_of now before at behind s)
+    → faults_of now before at following s ≡ [] → AllByRecursion IsWhole (tree_items_of now before at following s)
 unfolding tree_items_of pending_of changes_at
-step_whole now before behind at (Step.Sound s) force good e =
-    let parts = sound_parts now before behind at s force.unit good (sound_clear now before behind at s e) in
+step_whole now before following at (Step.Sound s) force good e =
+    let parts = sound_parts now before following at s force.unit good (sound_clear now before following at s e) in
     ((parts, when_good IsGoodKey _ _ force.key, when_good IsGoodMeter _ _ force.meter), tt)
-step_whole now before behind at (Step.Measures seen count) force good e = (
+step_whole now before following at (Step.Measures seen count) force good e = (
   (rest_values now at seen _ _, when_good IsGoodKey _ _ force.key, when_good IsGoodMeter _ _ force.meter),
   further_whole (measure_of now + 1) (count - 1),
 ) where
   further_whole : (measure n : ℕ) → AllByRecursion IsWhole (further_rests now at seen measure n)
   further_whole measure zero = tt
   further_whole measure (suc n) = ((rest_values now at seen measure false, tt, tt), further_whole (measure + 1) n)
-step_whole now before behind at (Step.Tuplet p q r) force good e =
+step_whole now before following at (Step.Tuplet p q r) force good e =
     with_tuplet (AllByRecursion IsWhole) now p q r (λ m x y z. (tt, tt)) tt
-step_whole now before behind at _ force good e = tt
+step_whole now before following at _ force good e = tt
 
-pub walk_whole : (first : InForce) (before behind : Steps)
-    → IsGoodForce first → AllByRecursion IsGoodPlacedStep before → AllByRecursion IsGoodPlacedStep behind
-    → faults_in first before behind ≡ [] → AllByRecursion IsWhole (signs first before behind)
+pub walk_whole : (first : InForce) (before following : Steps)
+    → IsGoodForce first → AllByRecursion IsGoodPlacedStep before → AllByRecursion IsGoodPlacedStep following
+    → faults_in first before following ≡ [] → AllByRecursion IsWhole (signs first before following)
 walk_whole first before [] force good goods e = tt
-walk_whole first before (at ∷ behind) force good goods e =
+walk_whole first before (at ∷ following) force good goods e =
     let here = walk_force first before force good in
-    all_both IsWhole _ _ (step_whole (state_at first before) before behind at at.step here goods.0 (none_before _ _ e))
-    (walk_whole first (at ∷ before) behind force (goods.0, good) goods.1 (none_behind _ _ e))
+    all_both IsWhole _ _
+    (step_whole (state_at first before) before following at at.step here goods.0 (none_before _ _ e))
+    (walk_whole first (at ∷ before) following force (goods.0, good) goods.1 (none_after _ _ e))
 
 -- ---- the events that open tuplets take
 not_short : (n r : ℕ) → nat_lt n r ≡ false → r ≤ n
 not_short n r e = grind (arith, nat_tests)
 
-pub tuplet_clear : (r : ℕ) (t : OpenTuplets) (at : PlacedStep) (behind : Steps) → tuplet_faults r t at behind ≡ []
-    → (fits r t ≡ true) × (r ≤ sounds_behind behind)
-tuplet_clear r t at behind e = by_test (fits r t) e where
+pub tuplet_clear : (r : ℕ) (t : OpenTuplets) (at : PlacedStep) (following : Steps) → tuplet_faults r t at following ≡ []
+    → (fits r t ≡ true) × (r ≤ sounds_after following)
+tuplet_clear r t at following e = by_test (fits r t) e where
   by_test : (b : Bool)
-      → cond b (fault_if (nat_lt (sounds_behind behind) r) FaultKind.TupletShort at) (step_fault (misfit_of t) at ∷ [])
+      → cond b (fault_if (nat_lt (sounds_after following) r) FaultKind.TupletShort at)
+      (step_fault (misfit_of t) at ∷ [])
       ≡ []
-      → (b ≡ true) × (r ≤ sounds_behind behind)
+      → (b ≡ true) × (r ≤ sounds_after following)
   by_test true e = (refl, not_short _ r (no_fault _ _ _ e))
   by_test false e = absurd cc
 
 pub sounds_on : (s : PlacedStep) (rest : Steps)
-    → sounds_behind (s ∷ rest) ≡ cond (ends_tuplets s.step) 0 (cond (is_sound s.step) 1 0 + sounds_behind rest)
-unfolding sounds_behind
+    → sounds_after (s ∷ rest) ≡ cond (ends_tuplets s.step) 0 (cond (is_sound s.step) 1 0 + sounds_after rest)
+unfolding sounds_after
 sounds_on s rest =
     let inside = before_first (λ (x : PlacedStep). ends_tuplets x.step) rest in
     let count : Steps → ℕ = count_by (λ (x : PlacedStep). is_sound x.step) in
@@ -202,16 +204,17 @@ pub default_some : (p r : ℕ) → 2 ≤ p → 1 ≤ or_default p r
 default_some p zero low = omega arith
 default_some p (suc r) low = omega arith
 
-pub next_enough : (now : VoiceState) (before behind : Steps) (at : PlacedStep) (s : Step)
-    → IsGoodStep s → faults_of now before at behind s ≡ []
-    → Enough now.taking (cond (ends_tuplets s) 0 (cond (is_sound s) 1 0 + sounds_behind behind))
-    → Enough (open_tuplets_after s now.taking) (sounds_behind behind)
+pub next_enough : (now : VoiceState) (before following : Steps) (at : PlacedStep) (s : Step)
+    → IsGoodStep s → faults_of now before at following s ≡ []
+    → Enough now.taking (cond (ends_tuplets s) 0 (cond (is_sound s) 1 0 + sounds_after following))
+    → Enough (open_tuplets_after s now.taking) (sounds_after following)
 unfolding faults_of ends_tuplets is_sound open_tuplets_after
-next_enough now before behind at (Step.Sound s) good e enough = after_enough now.taking (sounds_behind behind) enough
-next_enough now before behind at (Step.Measures seen count) good e enough = tt
-next_enough now before behind at (Step.Bar bar) good e enough = tt
-next_enough now before behind at (Step.Tuplet p q r) good e enough =
-    let clear = tuplet_clear (or_default p r) now.taking at behind e in
+next_enough now before following at (Step.Sound s) good e enough =
+    after_enough now.taking (sounds_after following) enough
+next_enough now before following at (Step.Measures seen count) good e enough = tt
+next_enough now before following at (Step.Bar bar) good e enough = tt
+next_enough now before following at (Step.Tuplet p q r) good e enough =
+    let clear = tuplet_clear (or_default p r) now.taking at following e in
     opened_enough _ now.taking _ clear.0 (default_some p r good.p_low) clear.1
     (subst (Enough now.taking) (zero-add _) enough)
-next_enough now before behind at _ good e enough = subst (Enough now.taking) (zero-add _) enough
+next_enough now before following at _ good e enough = subst (Enough now.taking) (zero-add _) enough

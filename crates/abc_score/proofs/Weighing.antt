@@ -78,21 +78,21 @@ few_values : (o : Option (List Value)) → length (unwrap_or o []) ≤ count_par
 few_values None = omega arith
 few_values (Some vs) = omega arith
 
-length_tied : (heads : List Head) (behind : Steps) → length (tied_heads heads behind) ≡ length heads
-length_tied [] behind = refl
-length_tied (h ∷ hs) behind = length-map (h ∷ hs) (with_tie (is_sound_tied behind))
+length_tied : (heads : List Head) (following : Steps) → length (tied_heads heads following) ≡ length heads
+length_tied [] following = refl
+length_tied (h ∷ hs) following = length-map (h ∷ hs) (with_tie (is_sound_tied following))
 
-sound_weight : (now : VoiceState) (before behind : Steps) (at : PlacedStep) (s : WrittenSound) →
-    let w = sound_written now before at s behind in
-    length w.values * max 1 (length w.heads) ≤ sound_count now before s behind
+sound_weight : (now : VoiceState) (before following : Steps) (at : PlacedStep) (s : WrittenSound) →
+    let w = sound_written now before at s following in
+    length w.values * max 1 (length w.heads) ≤ sound_count now before s following
 unfolding sound_written sound_count
-sound_weight now before behind at s =
-    let whole = written_length now.force.unit s before behind in
+sound_weight now before following at s =
+    let whole = written_length now.force.unit s before following in
     let values = parts_list whole.num whole.den in
     let parts = unwrap_or values [] in
-    let heads = tied_heads s.heads behind in
+    let heads = tied_heads s.heads following in
     let turned =
-    mul_comm (length parts) (max 1 (length heads)) ∙ ap (λ n. max 1 n * length parts) (length_tied s.heads behind) in
+    mul_comm (length parts) (max 1 (length heads)) ∙ ap (λ n. max 1 n * length parts) (length_tied s.heads following) in
     subst (λ n. n ≤ max 1 (length s.heads) * count_parts values) (sym turned)
     (mul-le-mul_left (max 1 (length s.heads)) (few_values values))
 
@@ -105,20 +105,20 @@ further_weight now at seen measure (suc n) =
     (further_rests now at seen (measure + 1) n) in
     omega (arith, all, further_weight now at seen (measure + 1) n)
 
-step_weight : (now : VoiceState) (before behind : Steps) (at : PlacedStep) (s : Step) → IsGoodStep s
-    → sum_by sign_weight (tree_items_of now before at behind s) ≤ sum_by count (weights_of now before at behind s)
+step_weight : (now : VoiceState) (before following : Steps) (at : PlacedStep) (s : Step) → IsGoodStep s
+    → sum_by sign_weight (tree_items_of now before at following s) ≤ sum_by count (weights_of now before at following s)
 unfolding tree_items_of weights_of rest_written
-step_weight now before behind at (Step.Sound s) good =
+step_weight now before following at (Step.Sound s) good =
     let waits = since_event before in
-    let own = sound_weight now before behind at s in
+    let own = sound_weight now before following at s in
     let graces = waiting_weight now.force waits s.decos in
     omega (
       arith,
       own,
       graces,
-      sum_by-append count (grace_weights waits) (weight_at (sound_count now before s behind) at ∷ []),
+      sum_by-append count (grace_weights waits) (weight_at (sound_count now before s following) at ∷ []),
     )
-step_weight now before behind at (Step.Measures seen n) good =
+step_weight now before following at (Step.Measures seen n) good =
     let waits = since_event before in let first = rest_written now at seen (measure_of now) (parted_at now waits) in
     let others = further_weight now at seen (measure_of now + 1) (n - 1) in
     let graces = waiting_weight now.force waits [] in
@@ -126,18 +126,20 @@ step_weight now before behind at (Step.Measures seen n) good =
     let here = sum_by-cons sign_weight (TreeItem.Event first (pending_of now.force waits []))
     (further_rests now at seen (measure_of now + 1) (n - 1)) in
     omega (arith, graces, others, here, sum_by-append count (grace_weights waits) (weight_at n at ∷ []), some)
-step_weight now before behind at (Step.Tuplet p q r) good =
+step_weight now before following at (Step.Tuplet p q r) good =
     with_tuplet (λ z. sum_by sign_weight z ≤ 0) now p q r (λ m x y z. omega arith) (omega arith)
-step_weight now before behind at _ good = omega arith
+step_weight now before following at _ good = omega arith
 
-pub signs_weigh : (first : InForce) (before behind : Steps) → AllByRecursion IsGoodPlacedStep behind
-    → sum_by sign_weight (signs first before behind) ≤ sum_by count (weights_in first before behind)
+pub signs_weigh : (first : InForce) (before following : Steps) → AllByRecursion IsGoodPlacedStep following
+    → sum_by sign_weight (signs first before following) ≤ sum_by count (weights_in first before following)
 signs_weigh first before [] good = omega arith
-signs_weigh first before (at ∷ behind) good =
-    let now = state_at first before in let here = step_weight now before behind at at.step good.0 in
-    let a = sum_by-append sign_weight (tree_items_of now before at behind at.step) (signs first (at ∷ before) behind) in
-    let b = sum_by-append count (weights_of now before at behind at.step) (weights_in first (at ∷ before) behind) in
-    omega (arith, here, signs_weigh first (at ∷ before) behind good.1, a, b)
+signs_weigh first before (at ∷ following) good =
+    let now = state_at first before in let here = step_weight now before following at at.step good.0 in
+    let a =
+    sum_by-append sign_weight (tree_items_of now before at following at.step) (signs first (at ∷ before) following) in
+    let b =
+    sum_by-append count (weights_of now before at following at.step) (weights_in first (at ∷ before) following) in
+    omega (arith, here, signs_weigh first (at ∷ before) following good.1, a, b)
 
 -- ---- crowds
 abbrev below : ℕ → ℕ → ℕ → ℕ → Bool
@@ -150,7 +152,7 @@ below_later a b x y m n h i = grind (arith, nat_tests)
 record Latest (ws : List Weight) : Type 0 where
   weight : Weight
   held : Contains ws weight
-  behind : AllByRecursion (λ v. stands_before weight v ≡ false) ws
+  following : AllByRecursion (λ v. stands_before weight v ≡ false) ws
 
 later_all : (m w : Weight) (ws : List Weight)
     → stands_before m w ≡ true → AllByRecursion (λ v. stands_before m v ≡ false) ws
@@ -161,18 +163,18 @@ later_all m w (v ∷ vs) before all =
     (below_later m.line m.column w.line w.column v.line v.column before all.0, later_all m w vs before all.1)
 
 latest_of : (w : Weight) (ws : List Weight) → Latest (w ∷ ws)
-latest_of w [] = record { weight = w; held = (0, omega arith, refl); behind = (not_before_itself w, tt) }
+latest_of w [] = record { weight = w; held = (0, omega arith, refl); following = (not_before_itself w, tt) }
 latest_of w (v ∷ vs) =
     let o = latest_of v vs in
     ⊎_elim (λ e. record {
       weight = w;
       held = (0, omega arith, refl);
-      behind = (not_before_itself w, later_all o.weight w (v ∷ vs) e o.behind);
+      following = (not_before_itself w, later_all o.weight w (v ∷ vs) e o.following);
     })
     (λ e. record {
       weight = o.weight;
       held = Contains-append_right (w ∷ []) (v ∷ vs) o.weight o.held;
-      behind = (e, o.behind);
+      following = (e, o.following);
     })
     (cases_Bool (stands_before o.weight w))
 
@@ -186,7 +188,7 @@ all_count m (w ∷ ws) all =
 pub not_crowded : (ws : List Weight) → crowded ws ≡ [] → sum_by count ws ≤ 50000
 not_crowded [] e = omega arith
 not_crowded (w ∷ ws) e =
-    let o = latest_of w ws in let whole = all_count o.weight (w ∷ ws) o.behind in
+    let o = latest_of w ws in let whole = all_count o.weight (w ∷ ws) o.following in
     ⊎_elim (λ more.
     let held = subst (λ fs. Contains fs (crowd_fault o.weight)) e (crowd_held (w ∷ ws) o.weight o.held more) in
     absurd (omega (arith, held.1)))

@@ -34,7 +34,7 @@ use Rattle.abc_score.proofs.Ids.{apart_read, few_read}
 use Rattle.abc_score.proofs.Segments.{Rise, measures_sing, measures_weigh, weight_in}
 use Rattle.abc_score.proofs.Weighing.{count, leaves_weigh, not_crowded, signs_weigh}
 use Rattle.abc_score.proofs.Reaching.{voice_reach}
-use Rattle.abc_score.proofs.Basics.{none_behind}
+use Rattle.abc_score.proofs.Basics.{none_after}
 use Rattle.abc_score.proofs.Forced.{forced_rise}
 use Rattle.abc_score.proofs.Nested.{nested_good}
 use Rattle.abc_score.proofs.Walks.{walk_whole}
@@ -216,7 +216,7 @@ good_score header items flow good given few e =
     let unnamed = unnamed_of header in let voices = voices_read header items in let n = most_measures voices in
     let made = map (voice_by_header header items n) voices in
     let clears = voices_clear unnamed items voices e in let faults = flat_map (voice_faults unnamed items) voices in
-    let light = not_crowded (flat_map voice_weights voices) (none_behind faults _ e) in
+    let light = not_crowded (flat_map voice_weights voices) (none_after faults _ e) in
     let within = few_measures unnamed items voices clears in let rise = forced_rise flow voices n in
     let known = all_known header items n voices (all_read header items (starts_of header items) good given) clears
     (own_most voices) in

@@ -52,19 +52,19 @@ fn keep(
     before: &[PlacedStep],
     at: &PlacedStep,
     parts: Option<Few<Value>>,
-    behind: &[PlacedStep],
+    following: &[PlacedStep],
 ) -> Result<(), Memory>
     requires few { length before.now ≤ 2 ^ 30 }
-    requires few_behind { length behind.now ≤ 2 ^ 30 }
+    requires few_after { length following.now ≤ 2 ^ 30 }
     requires groups { now.now.counts.groups ≤ 2 ^ 30 }
     requires further { now.now.counts.further ≤ 2 ^ 46 }
     requires force { IsGoodForce now.now.force }
-    requires parts { parts ≡ parts_at now.now.force.unit (reverse before.now) at.now.step behind.now }
+    requires parts { parts ≡ parts_at now.now.force.unit (reverse before.now) at.now.step following.now }
     ensures { OnOk result
         (kept.new.whole ≡ true
         → (kept.old.whole ≡ true)
         × (kept.new.signs
-        ≡ kept.old.signs ++ tree_items_of now.now (reverse before.now) at.now behind.now at.now.step)) }
+        ≡ kept.old.signs ++ tree_items_of now.now (reverse before.now) at.now following.now at.now.step)) }
 {
     if !kept.whole {
         return Ok(());
@@ -74,7 +74,7 @@ fn keep(
         kept.whole = false;
         return Ok(());
     }
-    put_signs(alloc, &mut kept.signs, now, before, at, parts, behind)
+    put_signs(alloc, &mut kept.signs, now, before, at, parts, following)
 }
 
 /// Returns no tree items, for a voice that isn't judged to its end.
@@ -90,7 +90,7 @@ fn none_kept(alloc: Global) -> VoiceItems
 }
 
 /// Returns whether a place is after a step.
-fn is_behind(at: &PlacedStep, line: u32, column: u32) -> bool
+fn is_after(at: &PlacedStep, line: u32, column: u32) -> bool
     ensures { result ≡ is_below_or_tied at.now.line line (nat_lt at.now.column column) }
 {
     at.line < line || (at.line == line && at.column < column)
@@ -103,7 +103,7 @@ fn count_up_to(weights: &[Weight], at: &PlacedStep) -> usize
 {
     let mut count: usize = 0;
     for w in weights {
-        if !is_behind(at, w.line, w.column) {
+        if !is_after(at, w.line, w.column) {
             count = count.saturating_add(w.count as usize);
         }
     }
@@ -112,18 +112,18 @@ fn count_up_to(weights: &[Weight], at: &PlacedStep) -> usize
 
 /// Returns whether all these steps are after one.
 #[tactic(auto, unfolding(abc_faults::specs::Weights::stands_before))]
-fn all_behind(at: &PlacedStep, behind: &[PlacedStep]) -> bool
-    ensures { result ≡ list_all (λ (s : PlacedStep). stands_before (weight_at 0 at.now) (weight_at 0 s)) behind.now }
+fn all_after(at: &PlacedStep, following: &[PlacedStep]) -> bool
+    ensures { result ≡ list_all (λ (s : PlacedStep). stands_before (weight_at 0 at.now) (weight_at 0 s)) following.now }
 {
-    behind.iter().all(|s| is_behind(at, s.line, s.column))
+    following.iter().all(|s| is_after(at, s.line, s.column))
 }
 
 /// Returns whether the number of heads and rests up to an event is too large, and all steps that follow it are placed
 /// after it.
-fn is_end(weights: &[Weight], at: &PlacedStep, behind: &[PlacedStep]) -> bool
-    ensures { result ≡ true → IsCrowdedAt weights.now at.now behind.now }
+fn is_end(weights: &[Weight], at: &PlacedStep, following: &[PlacedStep]) -> bool
+    ensures { result ≡ true → IsCrowdedAt weights.now at.now following.now }
 {
-    is_event(&at.step) && count_up_to(weights, at) > MOST_HEADS && all_behind(at, behind)
+    is_event(&at.step) && count_up_to(weights, at) > MOST_HEADS && all_after(at, following)
 }
 
 /// Returns whether a step has no effect by itself: it has no fault, no weight and no tree item, and changes nothing
@@ -171,24 +171,24 @@ pub(crate) fn judge_voice(
     let mut limit = start.saturating_add(MOST_HEADS);
     for i in 0..steps.len() {
         let (before, _) = steps.split_at(i);
-        let (_, behind) = steps.split_at(i + 1);
+        let (_, following) = steps.split_at(i + 1);
         let at = &steps[i];
         if is_idle(&at.step) {
             continue;
         }
-        let parts = parts_at(alloc, now.force.unit, before, at, behind)?;
+        let parts = parts_at(alloc, now.force.unit, before, at, following)?;
         found = earlier(
             found,
-            judge_step(weights, &now, before, at, &parts, behind)?,
+            judge_step(weights, &now, before, at, &parts, following)?,
         );
         if weights.len() > limit {
             let (_, own) = weights.as_slice().split_at(start);
-            if is_end(own, at, behind) {
+            if is_end(own, at, following) {
                 return Ok((found, none_kept(alloc)));
             }
             limit = limit.saturating_mul(2);
         }
-        keep(alloc, &mut kept, &now, before, at, parts, behind)?;
+        keep(alloc, &mut kept, &now, before, at, parts, following)?;
         step_over(alloc, &mut now, at)?;
     }
     kept.measures = now.counts.begun;

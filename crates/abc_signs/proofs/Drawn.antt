@@ -81,11 +81,11 @@ parts_few num den = by_test (512 * num / den * den == 512 * num) where
   by_test true = cut_few 8 (512 * num / den)
   by_test false = All-nil IsFew
 
-sound_few : (now : VoiceState) (before behind : Steps) (at : PlacedStep) (s : WrittenSound)
-    → AreFew (sound_written now before at s behind).values
+sound_few : (now : VoiceState) (before following : Steps) (at : PlacedStep) (s : WrittenSound)
+    → AreFew (sound_written now before at s following).values
 unfolding sound_written
-sound_few now before behind at s =
-    let length = written_length now.force.unit s before behind in parts_few length.num length.den
+sound_few now before following at s =
+    let length = written_length now.force.unit s before following in parts_few length.num length.den
 
 rest_few : (now : VoiceState) (at : PlacedStep) (seen : Bool) (measure : ℕ) (parted : Bool)
     → AreFew (rest_written now at seen measure parted).values
@@ -107,24 +107,24 @@ tuplet_drawn now p q r = by_test (fits (or_default p r) now.taking) where
   by_test true = All-cons HasDrawableValues _ [] tt (All-nil HasDrawableValues)
   by_test false = All-nil HasDrawableValues
 
-step_drawn : (now : VoiceState) (before behind : Steps) (at : PlacedStep) (s : Step)
-    → All HasDrawableValues (tree_items_of now before at behind s)
+step_drawn : (now : VoiceState) (before following : Steps) (at : PlacedStep) (s : Step)
+    → All HasDrawableValues (tree_items_of now before at following s)
 unfolding tree_items_of
-step_drawn now before behind at (Step.Sound s) =
-    All-cons HasDrawableValues _ [] (sound_few now before behind at s) (All-nil HasDrawableValues)
-step_drawn now before behind at (Step.Measures seen count) =
+step_drawn now before following at (Step.Sound s) =
+    All-cons HasDrawableValues _ [] (sound_few now before following at s) (All-nil HasDrawableValues)
+step_drawn now before following at (Step.Measures seen count) =
     All-cons HasDrawableValues _ (further_rests now at seen (measure_of now + 1) (count - 1))
     (rest_few now at seen (measure_of now) (parted_at now (since_event before)))
     (further_drawn now at seen (measure_of now + 1) (count - 1))
-step_drawn now before behind at (Step.Tuplet p q r) = tuplet_drawn now p q r
-step_drawn now before behind at _ = All-nil HasDrawableValues
+step_drawn now before following at (Step.Tuplet p q r) = tuplet_drawn now p q r
+step_drawn now before following at _ = All-nil HasDrawableValues
 
-pub signs_drawn : (first : InForce) (before behind : Steps) → All HasDrawableValues (signs first before behind)
+pub signs_drawn : (first : InForce) (before following : Steps) → All HasDrawableValues (signs first before following)
 signs_drawn first before [] = All-nil HasDrawableValues
-signs_drawn first before (at ∷ behind) =
-    All-append HasDrawableValues (tree_items_of (state_at first before) before at behind at.step)
-    (signs first (at ∷ before) behind) (step_drawn (state_at first before) before behind at at.step)
-    (signs_drawn first (at ∷ before) behind)
+signs_drawn first before (at ∷ following) =
+    All-append HasDrawableValues (tree_items_of (state_at first before) before at following at.step)
+    (signs first (at ∷ before) following) (step_drawn (state_at first before) before following at at.step)
+    (signs_drawn first (at ∷ before) following)
 
 -- at the end of the walk
 pub walk_drawn : (first : InForce) (steps : Steps) (i : ℕ) (out : List TreeItem)

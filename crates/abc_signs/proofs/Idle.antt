@@ -9,13 +9,13 @@ use Rattle.abc_steps.specs.declared.step.Step.{Step}
 use Rattle.abc_steps.specs.declared.step.PlacedStep.{PlacedStep}
 use Rattle.abc_steps.specs.Looks.{Steps}
 use Rattle.abc_steps.specs.Force.{changes_at, names_key, names_clef, names_meter}
-use Rattle.abc_signs.specs.Waits.{decos_in, mentions_in, graces_in, has_slash, ending_behind, tells, nothing_pending}
+use Rattle.abc_signs.specs.Waits.{decos_in, mentions_in, graces_in, has_slash, ending_after, tells, nothing_pending}
 use Rattle.abc_signs.specs.Waits.{pending_of}
 
 step_idle : (now : InForce) (s : Step) (line column : ℕ) (waits : Steps)
     → tells s ≡ false
     → pending_of now waits [] ≡ pending_of now (record { step = s; line = line; column = column } ∷ waits) []
-unfolding pending_of changes_at tells decos_in mentions_in graces_in has_slash ending_behind names_key names_clef
+unfolding pending_of changes_at tells decos_in mentions_in graces_in has_slash ending_after names_key names_clef
     names_meter
 step_idle now (Step.Grace slash body) line column waits e = absurd cc
 step_idle now (Step.Ending text) line column waits e = absurd cc

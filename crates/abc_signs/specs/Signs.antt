@@ -30,8 +30,8 @@ abbrev pub with_tie : Bool → Head → Head
 with_tie tie head = record head { tied = head.tied || tie }
 
 abbrev pub tied_heads : List Head → Steps → List Head
-tied_heads [] behind = []
-tied_heads (h ∷ hs) behind = map (with_tie (is_sound_tied behind)) (h ∷ hs)
+tied_heads [] following = []
+tied_heads (h ∷ hs) following = map (with_tie (is_sound_tied following)) (h ∷ hs)
 
 -- a rest begins and ends no slur
 abbrev pub for_note : List Head → ℕ → ℕ
@@ -46,19 +46,19 @@ whole_look seen = if seen then Look.Whole else Look.Unseen
 
 -- a note, a chord or a rest
 unfoldable pub sound_written : VoiceState → Steps → PlacedStep → WrittenSound → Steps → WrittenEvent
-sound_written now before at s behind =
-    let length = written_length now.force.unit s before behind in
+sound_written now before at s following =
+    let length = written_length now.force.unit s before following in
     record {
       line = at.line;
       column = at.column;
       measure = measure_of now;
-      heads = tied_heads s.heads behind;
+      heads = tied_heads s.heads following;
       look = look_of s.seen;
       values = unwrap_or (parts_list length.num length.den) [];
       whole = None;
       parted = parted_at now (since_event before);
       begins = for_note s.heads (slurs_begun before);
-      ends = for_note s.heads (slurs_ended behind);
+      ends = for_note s.heads (slurs_ended following);
     }
 
 -- a whole measure rest: it lasts as long as the meter, and its value is a whole without dots
@@ -98,17 +98,17 @@ tuplet_of now p q r =
     else []
 
 unfoldable pub tree_items_of : VoiceState → Steps → PlacedStep → Steps → Step → List TreeItem
-tree_items_of now before at behind (Step.Sound s) =
-    TreeItem.Event (sound_written now before at s behind) (pending_of now.force (since_event before) s.decos) ∷ []
-tree_items_of now before at behind (Step.Measures seen count) = rests_of now (since_event before) at seen count
-tree_items_of now before at behind (Step.Tuplet p q r) = tuplet_of now p q r
-tree_items_of now before at behind _ = []
+tree_items_of now before at following (Step.Sound s) =
+    TreeItem.Event (sound_written now before at s following) (pending_of now.force (since_event before) s.decos) ∷ []
+tree_items_of now before at following (Step.Measures seen count) = rests_of now (since_event before) at seen count
+tree_items_of now before at following (Step.Tuplet p q r) = tuplet_of now p q r
+tree_items_of now before at following _ = []
 
 -- each step of a voice in turn, with the steps before it, the nearest first, and the steps after it
 abbrev pub signs : InForce → Steps → Steps → List TreeItem
 signs first before [] = []
-signs first before (at ∷ behind) =
-    tree_items_of (state_at first before) before at behind at.step ++ signs first (at ∷ before) behind
+signs first before (at ∷ following) =
+    tree_items_of (state_at first before) before at following at.step ++ signs first (at ∷ before) following
 
 -- Good tree items: each value has at most three dots.
 abbrev pub HasDrawableValues : TreeItem → Type 0

@@ -41,13 +41,13 @@ has_slash (Step.Grace slash body) = slash
 has_slash _ = false
 
 -- if there are several endings, the last counts
-unfoldable pub ending_behind : Step → Option (List ℕ) → Option (List ℕ)
-ending_behind (Step.Ending text) ending = Some text
-ending_behind _ ending = ending
+unfoldable pub ending_after : Step → Option (List ℕ) → Option (List ℕ)
+ending_after (Step.Ending text) ending = Some text
+ending_after _ ending = ending
 
 abbrev pub last_ending : Option (List ℕ) → Steps → Option (List ℕ)
 last_ending ending [] = ending
-last_ending ending (s ∷ waits) = last_ending (ending_behind s.step ending) waits
+last_ending ending (s ∷ waits) = last_ending (ending_after s.step ending) waits
 
 -- several groups of graces are one, with a slash if one of them has it; the decorations inside a chord come after the
 -- pending ones

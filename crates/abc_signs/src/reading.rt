@@ -49,13 +49,13 @@ pub fn with_ties(alloc: Global, heads: &[Head], tie: bool) -> Result<Few<Head>, 
 }
 
 #[inline(always)]
-fn tied_heads(alloc: Global, heads: &[Head], behind: &[PlacedStep]) -> Result<Few<Head>, Memory>
-    ensures { IfOk result (λ r. r ≡ tied_heads heads.now behind.now) }
+fn tied_heads(alloc: Global, heads: &[Head], following: &[PlacedStep]) -> Result<Few<Head>, Memory>
+    ensures { IfOk result (λ r. r ≡ tied_heads heads.now following.now) }
 {
     if heads.is_empty() {
         return Ok(Few::from(Row::new(alloc)));
     }
-    with_ties(alloc, heads, is_sound_tied(behind))
+    with_ties(alloc, heads, is_sound_tied(following))
 }
 
 #[inline(always)]
@@ -70,14 +70,14 @@ fn begins(heads: &[Head], before: &[PlacedStep]) -> u32
 }
 
 #[inline(always)]
-fn ends(heads: &[Head], behind: &[PlacedStep]) -> u32
-    requires { length behind.now ≤ 2 ^ 30 }
-    ensures { result ≡ for_note heads.now (slurs_ended behind.now) }
+fn ends(heads: &[Head], following: &[PlacedStep]) -> u32
+    requires { length following.now ≤ 2 ^ 30 }
+    ensures { result ≡ for_note heads.now (slurs_ended following.now) }
 {
     if heads.is_empty() {
         return 0;
     }
-    slurs_ended(behind)
+    slurs_ended(following)
 }
 
 fn parted_at(now: &VoiceState, waits: &[PlacedStep]) -> bool
@@ -116,17 +116,17 @@ fn sound_written(
     at: &PlacedStep,
     s: &StoredSound,
     parts: Option<Few<Value>>,
-    behind: &[PlacedStep],
+    following: &[PlacedStep],
 ) -> Result<WrittenEvent, Memory>
     requires few { length before.now ≤ 2 ^ 30 }
-    requires few_behind { length behind.now ≤ 2 ^ 30 }
+    requires few_after { length following.now ≤ 2 ^ 30 }
     requires groups { now.now.counts.groups ≤ 2 ^ 30 }
     requires further { now.now.counts.further ≤ 2 ^ 46 }
-    requires parts { parts ≡ parts_at now.now.force.unit (reverse before.now) (Step.Sound s.now) behind.now }
+    requires parts { parts ≡ parts_at now.now.force.unit (reverse before.now) (Step.Sound s.now) following.now }
     requires waits { waits.now ≡ since_event (reverse before.now) }
-    ensures { IfOk result (λ w. w ≡ sound_written now.now (reverse before.now) at.now s.now behind.now) }
+    ensures { IfOk result (λ w. w ≡ sound_written now.now (reverse before.now) at.now s.now following.now) }
 {
-    let heads = tied_heads(alloc, s.heads(), behind)?;
+    let heads = tied_heads(alloc, s.heads(), following)?;
     Ok(WrittenEvent {
         line: at.line,
         column: at.column,
@@ -137,7 +137,7 @@ fn sound_written(
         whole: None,
         parted: parted_at(now, waits),
         begins: begins(s.heads(), before),
-        ends: ends(s.heads(), behind),
+        ends: ends(s.heads(), following),
     })
 }
 
@@ -254,21 +254,21 @@ pub fn put_signs(
     before: &[PlacedStep],
     at: &PlacedStep,
     parts: Option<Few<Value>>,
-    behind: &[PlacedStep],
+    following: &[PlacedStep],
 ) -> Result<(), Memory>
     requires few { length before.now ≤ 2 ^ 30 }
-    requires few_behind { length behind.now ≤ 2 ^ 30 }
+    requires few_after { length following.now ≤ 2 ^ 30 }
     requires groups { now.now.counts.groups ≤ 2 ^ 30 }
     requires further { now.now.counts.further ≤ 2 ^ 46 }
     requires force { IsGoodForce now.now.force }
-    requires parts { parts ≡ parts_at now.now.force.unit (reverse before.now) at.now.step behind.now }
+    requires parts { parts ≡ parts_at now.now.force.unit (reverse before.now) at.now.step following.now }
     ensures { OnOk result
-        (out.new ≡ out.old ++ tree_items_of now.now (reverse before.now) at.now behind.now at.now.step) }
+        (out.new ≡ out.old ++ tree_items_of now.now (reverse before.now) at.now following.now at.now.step) }
 {
     match &at.step {
         Step::Sound(s) => {
             let waits = since_event(before);
-            let written = sound_written(alloc, now, before, waits, at, s, parts, behind)?;
+            let written = sound_written(alloc, now, before, waits, at, s, parts, following)?;
             let waiting = waiting_of(alloc, &now.force, waits, s.decos())?;
             out.push(TreeItem::Event { written, waiting })
         }
@@ -298,10 +298,10 @@ pub fn signs(alloc: Global, first: &InForce, steps: &[PlacedStep]) -> Result<Row
     let mut now = beginning(alloc, first)?;
     for i in 0..steps.len() {
         let (before, _) = steps.split_at(i);
-        let (_, behind) = steps.split_at(i + 1);
+        let (_, following) = steps.split_at(i + 1);
         let at = &steps[i];
-        let parts = parts_at(alloc, now.force.unit, before, at, behind)?;
-        put_signs(alloc, &mut out, &now, before, at, parts, behind)?;
+        let parts = parts_at(alloc, now.force.unit, before, at, following)?;
+        put_signs(alloc, &mut out, &now, before, at, parts, following)?;
         step_over(alloc, &mut now, at)?;
     }
     Ok(out)

@@ -1,7 +1,7 @@
 ghost use Rattle.std.specs.Prelude.{◌≡◌, ◌++◌, ◌∷◌, [], None, IfOk, OnOk};
 ghost use Rattle.std.specs.List.{list_any};
 ghost use Rattle.abc_signs.specs.Waits.{decos_in, is_annotation_above, mention_of, mentions_in, graces_in, has_slash};
-ghost use Rattle.abc_signs.specs.Waits.{ending_behind, pending_of, nothing_pending, no_changes, tells};
+ghost use Rattle.abc_signs.specs.Waits.{ending_after, pending_of, nothing_pending, no_changes, tells};
 
 use crate::written::{Pending, StoredPending};
 use abc_steps::copies::put_chords;
@@ -57,12 +57,12 @@ fn any_slash(waits: &[PlacedStep]) -> bool
 
 /// Adds what a step means for the event after it, except changes and slashes.
 #[tactic(auto, unfolding(crate::specs::Waits::decos_in, crate::specs::Waits::mentions_in, //
-crate::specs::Waits::ending_behind, crate::specs::Waits::graces_in))]
+crate::specs::Waits::ending_after, crate::specs::Waits::graces_in))]
 fn put_waiting(alloc: Global, out: &mut Pending, s: &Step) -> Result<(), Memory>
     ensures changes { OnOk result (out.new.changes ≡ out.old.changes) }
     ensures decos { OnOk result (out.new.decos ≡ out.old.decos ++ decos_in s.now) }
     ensures mentions { OnOk result (out.new.mentions ≡ out.old.mentions ++ mentions_in s.now) }
-    ensures ending { OnOk result (out.new.ending ≡ ending_behind s.now out.old.ending) }
+    ensures ending { OnOk result (out.new.ending ≡ ending_after s.now out.old.ending) }
     ensures graces { OnOk result (out.new.graces ≡ out.old.graces ++ graces_in s.now) }
     ensures slash { OnOk result (out.new.slash ≡ out.old.slash) }
 {

@@ -26,9 +26,9 @@ turned xs k le =
     let b = drop m xs in
     let whole : reverse xs ≡ reverse b ++ reverse a = ap reverse (sym (take-append-drop m xs)) ∙ reverse-append a b in
     let long : length (reverse b) ≡ k = length-reverse b ∙ (length-drop m xs ∙ omega arith) in
-    let front : take k (reverse b ++ reverse a) ≡ reverse b =
+    let prefix : take k (reverse b ++ reverse a) ≡ reverse b =
     take-append-le k (reverse b) (reverse a) (omega arith) ∙ take_all k (reverse b) (omega arith) in
-    sym (ap (λ ys. reverse (take k ys)) whole ∙ (ap reverse front ∙ reverse-reverse b))
+    sym (ap (λ ys. reverse (take k ys)) whole ∙ (ap reverse prefix ∙ reverse-reverse b))
 
 pub back_to_place : {X : Type 0} (p : X → Bool) (xs : List X) (n : Option ℕ)
     → n ≡ position p (reverse xs)

@@ -4,7 +4,7 @@ use Rattle.mus_units.specs.{declared.value.Frac.Frac, declared.value.Value.Value
 use Rattle.abc_steps.specs.declared.step.WrittenSound.{WrittenSound}
 use Rattle.abc_steps.specs.declared.step.PlacedStep.{PlacedStep}
 use Rattle.abc_steps.specs.declared.step.Step.{Step}
-use Rattle.abc_steps.specs.Looks.{Steps, broken_before, broken_behind}
+use Rattle.abc_steps.specs.Looks.{Steps, broken_before, broken_after}
 
 abbrev pub once : Frac
 once = record { num = 1; den = 1 }
@@ -41,16 +41,16 @@ right_factor (Some s) = right_side s.step
 right_factor None = once
 
 unfoldable pub written_length : Frac → WrittenSound → Steps → Steps → Frac
-written_length unit s before behind =
-    let left = left_factor (broken_behind behind) in
+written_length unit s before following =
+    let left = left_factor (broken_after following) in
     let right = right_factor (broken_before before) in
     record { num = s.num * unit.num * (left.num * right.num); den = s.den * unit.den * (left.den * right.den) }
 
 -- the parts of a step: those of the length of a note, a chord or a rest; any other step has none
 unfoldable pub parts_at : Frac → Steps → Step → Steps → Option (List Value)
-parts_at unit before (Step.Sound s) behind =
-    let length = written_length unit s before behind in parts_list length.num length.den
-parts_at unit before _ behind = None
+parts_at unit before (Step.Sound s) following =
+    let length = written_length unit s before following in parts_list length.num length.den
+parts_at unit before _ following = None
 
 -- Bounds: those of a factor, and those of a written length.
 pub record IsFactor (f : Frac) : Type 0 where

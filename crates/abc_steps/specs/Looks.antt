@@ -1,5 +1,5 @@
 -- What comes before and after a place among the steps of a voice: `before` is the steps before it, the nearest first,
--- and `behind` the steps after it.
+-- and `following` the steps after it.
 use Rattle.std.specs.Prelude.{ℕ, List, reverse, find, count_by, Bool, false, if◌then◌else◌, Option, Some, None}
 use Rattle.std.specs.List.{before_first, list_any}
 use Rattle.abc_steps.specs.declared.step.PlacedStep.{PlacedStep}
@@ -18,10 +18,10 @@ since_note before = reverse (before_first (λ s. is_note s.step) before)
 
 -- the steps up to the next event, or the next note
 unfoldable pub to_event : Steps → Steps
-to_event behind = before_first (λ s. is_event s.step) behind
+to_event following = before_first (λ s. is_event s.step) following
 
 unfoldable pub to_note : Steps → Steps
-to_note behind = before_first (λ s. is_note s.step) behind
+to_note following = before_first (λ s. is_note s.step) following
 
 -- the nearest event
 unfoldable pub nearest_event : Steps → Option PlacedStep
@@ -29,14 +29,14 @@ nearest_event steps = find (λ s. is_event s.step) steps
 
 -- a tie belongs to the last note before it on its line
 unfoldable pub is_sound_tied : Steps → Bool
-is_sound_tied behind = list_any (λ s. is_tie s.step) (before_first (λ s. is_tie_stop s.step) behind)
+is_sound_tied following = list_any (λ s. is_tie s.step) (before_first (λ s. is_tie_stop s.step) following)
 
 -- an opened slur is pending for the next note, and a closed one belongs to the last note before it
 unfoldable pub slurs_begun : Steps → ℕ
 slurs_begun before = count_by (λ s. is_slur_on s.step) (since_note before)
 
 unfoldable pub slurs_ended : Steps → ℕ
-slurs_ended behind = count_by (λ s. is_slur_off s.step) (to_note behind)
+slurs_ended following = count_by (λ s. is_slur_off s.step) (to_note following)
 
 -- a space or the end of a line is pending
 unfoldable pub has_parting : Steps → Bool
@@ -54,8 +54,8 @@ broken_among between = if list_any (λ s. is_bar s.step) between then None else 
 unfoldable pub broken_before : Steps → Option PlacedStep
 broken_before before = if is_some_sound (nearest_event before) then broken_among (since_event before) else None
 
-unfoldable pub broken_behind : Steps → Option PlacedStep
-broken_behind behind = if is_some_sound (nearest_event behind) then broken_among (to_event behind) else None
+unfoldable pub broken_after : Steps → Option PlacedStep
+broken_after following = if is_some_sound (nearest_event following) then broken_among (to_event following) else None
 
 -- The sides of a broken rhythm. On the left, the nearest event, bar or other broken rhythm is an event with a length;
 -- on the right, the nearest event or bar is.
@@ -63,4 +63,4 @@ unfoldable pub has_left : Steps → Bool
 has_left before = is_some_sound (find (λ s. is_left_stop s.step) before)
 
 unfoldable pub has_right : Steps → Bool
-has_right behind = is_some_sound (find (λ s. is_event_or_bar s.step) behind)
+has_right following = is_some_sound (find (λ s. is_event_or_bar s.step) following)

@@ -4,7 +4,7 @@ ghost use Rattle.abc_steps.specs.Good.{IsGoodSound, IsGoodPlacedStep};
 ghost use Rattle.abc_steps.specs.Lengths.{long_side, short_side, left_side, right_side, left_factor, right_factor};
 ghost use Rattle.abc_steps.specs.Lengths.{written_length, parts_at, IsFactor, IsLength};
 
-use crate::looks::{broken_before, broken_behind};
+use crate::looks::{broken_after, broken_before};
 use crate::step::{PlacedStep, Step};
 use crate::stored::StoredSound;
 use mus_units::{Few, Frac, Memory, Value, parts_of, value_of};
@@ -91,14 +91,14 @@ pub fn written_length(
     unit: Frac,
     s: &StoredSound,
     before: &[PlacedStep],
-    behind: &[PlacedStep],
+    following: &[PlacedStep],
 ) -> Frac
     requires unit { IsGoodUnit unit }
     requires good { IsGoodSound s.now }
-    ensures value { result ≡ written_length unit s.now (reverse before.now) behind.now }
+    ensures value { result ≡ written_length unit s.now (reverse before.now) following.now }
     ensures length { IsLength result }
 {
-    let left = left_factor(broken_behind(behind));
+    let left = left_factor(broken_after(following));
     let right = right_factor(broken_before(before));
     Frac {
         num: s.num() * unit.num * (left.num * right.num),
@@ -130,14 +130,14 @@ pub fn parts_at(
     unit: Frac,
     before: &[PlacedStep],
     at: &PlacedStep,
-    behind: &[PlacedStep],
+    following: &[PlacedStep],
 ) -> Result<Option<Few<Value>>, Memory>
     requires unit { IsGoodUnit unit }
     requires good { IsGoodPlacedStep at.now }
-    ensures { IfOk result (λ r. r ≡ parts_at unit (reverse before.now) at.now.step behind.now) }
+    ensures { IfOk result (λ r. r ≡ parts_at unit (reverse before.now) at.now.step following.now) }
 {
     match &at.step {
-        Step::Sound(s) => parts_in(alloc, written_length(unit, s, before, behind)),
+        Step::Sound(s) => parts_in(alloc, written_length(unit, s, before, following)),
         _ => Ok(None),
     }
 }

@@ -6,7 +6,7 @@ ghost use Rattle.abc_steps.specs.Kinds.{is_note, is_event, is_bar, is_broken, is
 ghost use Rattle.abc_steps.specs.Kinds.{is_event_or_bar, is_left_stop, is_tie_stop};
 ghost use Rattle.abc_steps.specs.Looks.{since_event, since_note, to_event, to_note, nearest_event, is_sound_tied};
 ghost use Rattle.abc_steps.specs.Looks.{slurs_begun, slurs_ended, has_parting, is_some_sound, broken_among};
-ghost use Rattle.abc_steps.specs.Looks.{broken_before, broken_behind, has_left, has_right};
+ghost use Rattle.abc_steps.specs.Looks.{broken_before, broken_after, has_left, has_right};
 
 use crate::kinds::{
     is_bar, is_broken, is_event, is_event_or_bar, is_left_stop, is_note, is_parting, is_slur_off,
@@ -14,11 +14,11 @@ use crate::kinds::{
 };
 use crate::step::PlacedStep;
 
-fn first_event(behind: &[PlacedStep]) -> Option<usize>
-    ensures within { IfSome result (λ n. n ≤ length behind.now) }
-    ensures value { result ≡ position (λ s. is_event s.step) behind.now }
+fn first_event(following: &[PlacedStep]) -> Option<usize>
+    ensures within { IfSome result (λ n. n ≤ length following.now) }
+    ensures value { result ≡ position (λ s. is_event s.step) following.now }
 {
-    behind.iter().position(|s| is_event(&s.step))
+    following.iter().position(|s| is_event(&s.step))
 }
 
 fn last_event(before: &[PlacedStep]) -> Option<usize>
@@ -28,11 +28,11 @@ fn last_event(before: &[PlacedStep]) -> Option<usize>
     before.iter().rev().position(|s| is_event(&s.step))
 }
 
-fn first_note(behind: &[PlacedStep]) -> Option<usize>
-    ensures within { IfSome result (λ n. n ≤ length behind.now) }
-    ensures value { result ≡ position (λ s. is_note s.step) behind.now }
+fn first_note(following: &[PlacedStep]) -> Option<usize>
+    ensures within { IfSome result (λ n. n ≤ length following.now) }
+    ensures value { result ≡ position (λ s. is_note s.step) following.now }
 {
-    behind.iter().position(|s| is_note(&s.step))
+    following.iter().position(|s| is_note(&s.step))
 }
 
 fn last_note(before: &[PlacedStep]) -> Option<usize>
@@ -42,22 +42,22 @@ fn last_note(before: &[PlacedStep]) -> Option<usize>
     before.iter().rev().position(|s| is_note(&s.step))
 }
 
-fn first_tie_stop(behind: &[PlacedStep]) -> Option<usize>
-    ensures within { IfSome result (λ n. n ≤ length behind.now) }
-    ensures value { result ≡ position (λ s. is_tie_stop s.step) behind.now }
+fn first_tie_stop(following: &[PlacedStep]) -> Option<usize>
+    ensures within { IfSome result (λ n. n ≤ length following.now) }
+    ensures value { result ≡ position (λ s. is_tie_stop s.step) following.now }
 {
-    behind.iter().position(|s| is_tie_stop(&s.step))
+    following.iter().position(|s| is_tie_stop(&s.step))
 }
 
 /// Returns the steps before a place.
 #[tactic(auto, using(crate::proofs::Positions::up_to_place))]
-fn up_to(behind: &[PlacedStep], place: Option<usize>) -> &[PlacedStep]
-    requires { IfSome place (λ n. n ≤ length behind.now) }
+fn up_to(following: &[PlacedStep], place: Option<usize>) -> &[PlacedStep]
+    requires { IfSome place (λ n. n ≤ length following.now) }
     ensures value { (test : PlacedStep → Bool)
-        → place ≡ position test behind.now → result.now ≡ before_first test behind.now }
-    ensures within { length result.now ≤ length behind.now }
+        → place ≡ position test following.now → result.now ≡ before_first test following.now }
+    ensures within { length result.now ≤ length following.now }
 {
-    behind.split_at(place.unwrap_or(behind.len())).0
+    following.split_at(place.unwrap_or(following.len())).0
 }
 
 /// Returns the steps after a place that is counted from the end.
@@ -92,20 +92,20 @@ pub fn since_note(before: &[PlacedStep]) -> &[PlacedStep]
 
 /// Returns the steps up to the next event.
 #[tactic(auto, unfolding(crate::specs::Looks::to_event))]
-pub fn to_event(behind: &[PlacedStep]) -> &[PlacedStep]
-    ensures value { result.now ≡ to_event behind.now }
-    ensures within { length result.now ≤ length behind.now }
+pub fn to_event(following: &[PlacedStep]) -> &[PlacedStep]
+    ensures value { result.now ≡ to_event following.now }
+    ensures within { length result.now ≤ length following.now }
 {
-    up_to(behind, first_event(behind))
+    up_to(following, first_event(following))
 }
 
 /// Returns the steps up to the next note.
 #[tactic(auto, unfolding(crate::specs::Looks::to_note))]
-pub fn to_note(behind: &[PlacedStep]) -> &[PlacedStep]
-    ensures value { result.now ≡ to_note behind.now }
-    ensures within { length result.now ≤ length behind.now }
+pub fn to_note(following: &[PlacedStep]) -> &[PlacedStep]
+    ensures value { result.now ≡ to_note following.now }
+    ensures within { length result.now ≤ length following.now }
 {
-    up_to(behind, first_note(behind))
+    up_to(following, first_note(following))
 }
 
 fn any_tie(steps: &[PlacedStep]) -> bool
@@ -130,10 +130,10 @@ pub fn has_parting(waits: &[PlacedStep]) -> bool
 
 /// Returns whether the note before the place is tied.
 #[tactic(auto, unfolding(crate::specs::Looks::is_sound_tied))]
-pub fn is_sound_tied(behind: &[PlacedStep]) -> bool
-    ensures { result ≡ is_sound_tied behind.now }
+pub fn is_sound_tied(following: &[PlacedStep]) -> bool
+    ensures { result ≡ is_sound_tied following.now }
 {
-    any_tie(up_to(behind, first_tie_stop(behind)))
+    any_tie(up_to(following, first_tie_stop(following)))
 }
 
 fn count_slurs_on(steps: &[PlacedStep]) -> u32
@@ -173,11 +173,11 @@ pub fn slurs_begun(before: &[PlacedStep]) -> u32
 
 /// Returns the number of slurs that end at the note before the place.
 #[tactic(auto, unfolding(crate::specs::Looks::slurs_ended))]
-pub fn slurs_ended(behind: &[PlacedStep]) -> u32
-    requires { length behind.now ≤ 2 ^ 30 }
-    ensures { result ≡ slurs_ended behind.now }
+pub fn slurs_ended(following: &[PlacedStep]) -> u32
+    requires { length following.now ≤ 2 ^ 30 }
+    ensures { result ≡ slurs_ended following.now }
 {
-    count_slurs_off(to_note(behind))
+    count_slurs_off(to_note(following))
 }
 
 #[tactic(auto, unfolding(crate::specs::Looks::nearest_event))]
@@ -188,10 +188,10 @@ fn event_before(before: &[PlacedStep]) -> Option<&PlacedStep>
 }
 
 #[tactic(auto, unfolding(crate::specs::Looks::nearest_event))]
-fn event_behind(behind: &[PlacedStep]) -> Option<&PlacedStep>
-    ensures { option_copied result ≡ nearest_event behind.now }
+fn event_after(following: &[PlacedStep]) -> Option<&PlacedStep>
+    ensures { option_copied result ≡ nearest_event following.now }
 {
-    behind.iter().find(|s| is_event(&s.step))
+    following.iter().find(|s| is_event(&s.step))
 }
 
 fn first_broken(steps: &[PlacedStep]) -> Option<&PlacedStep>
@@ -238,15 +238,15 @@ pub fn broken_before(before: &[PlacedStep]) -> Option<&PlacedStep>
 }
 
 /// Returns the broken rhythm between an event before the place and the event after it.
-#[tactic(auto, unfolding(crate::specs::Looks::broken_behind))]
-pub fn broken_behind(behind: &[PlacedStep]) -> Option<&PlacedStep>
-    ensures { option_copied result ≡ broken_behind behind.now }
+#[tactic(auto, unfolding(crate::specs::Looks::broken_after))]
+pub fn broken_after(following: &[PlacedStep]) -> Option<&PlacedStep>
+    ensures { option_copied result ≡ broken_after following.now }
 {
-    let between = to_event(behind);
+    let between = to_event(following);
     if between.is_empty() {
         return None;
     }
-    if is_some_sound(event_behind(behind)) {
+    if is_some_sound(event_after(following)) {
         broken_among(between)
     } else {
         None
@@ -259,10 +259,10 @@ fn left_stop(before: &[PlacedStep]) -> Option<&PlacedStep>
     before.iter().rev().find(|s| is_left_stop(&s.step))
 }
 
-fn right_stop(behind: &[PlacedStep]) -> Option<&PlacedStep>
-    ensures { option_copied result ≡ find (λ s. is_event_or_bar s.step) behind.now }
+fn right_stop(following: &[PlacedStep]) -> Option<&PlacedStep>
+    ensures { option_copied result ≡ find (λ s. is_event_or_bar s.step) following.now }
 {
-    behind.iter().find(|s| is_event_or_bar(&s.step))
+    following.iter().find(|s| is_event_or_bar(&s.step))
 }
 
 /// Returns whether a broken rhythm at the place has its left side.
@@ -275,8 +275,8 @@ pub fn has_left(before: &[PlacedStep]) -> bool
 
 /// Returns whether a broken rhythm before the place has its right side.
 #[tactic(auto, unfolding(crate::specs::Looks::has_right))]
-pub fn has_right(behind: &[PlacedStep]) -> bool
-    ensures { result ≡ has_right behind.now }
+pub fn has_right(following: &[PlacedStep]) -> bool
+    ensures { result ≡ has_right following.now }
 {
-    is_some_sound(right_stop(behind))
+    is_some_sound(right_stop(following))
 }

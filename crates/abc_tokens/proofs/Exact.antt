@@ -33,7 +33,7 @@ use Rattle.abc_pieces.specs.declared.token.PieceBefore.{PieceBefore}
 use Rattle.abc_pieces.specs.declared.token.BracketOpening.{BracketOpening}
 use Rattle.abc_pieces.proofs.BarLaws.{form_at-reaches, goes_on as bar_goes_on}
 use Rattle.abc_pieces.proofs.Classes.{digit_below, letter_apart}
-use Rattle.abc_pieces.proofs.PieceTakes.{opening-behind}
+use Rattle.abc_pieces.proofs.PieceTakes.{opening-following}
 
 pub data Stops : List ℕ → Type 0 where
   at_end : Stops []
@@ -195,13 +195,13 @@ bar_is_read f x good h =
     ] in
     ap (option_map (λ (z : BarForm × List ℕ). form_pair (bar_form z.0) z.1)) is
 
-behind_dot : (b : ℕ) (o : Bool) (m : ℕ) (c : Bool) (a : ℕ) (x : List ℕ)
+after_dot : (b : ℕ) (o : Bool) (m : ℕ) (c : Bool) (a : ℕ) (x : List ℕ)
     → let s = copies b 58 (maybe o 91 (copies (suc m) 124 (maybe c 93 (copies a 58 x)))) in
     dot_read s ≡ or_else (bar_read (46 ∷ s)) (read (letter_form 46) s)
 unfolding dot_read
-behind_dot zero true m c a x = refl
-behind_dot zero false m c a x = refl
-behind_dot (suc b) o m c a x = refl
+after_dot zero true m c a x = refl
+after_dot zero false m c a x = refl
+after_dot (suc b) o m c a x = refl
 
 wins : (r other : FormAndRest) (z : Form × List ℕ) → r ≡ Some z → or_else r other ≡ Some z
 wins r other z e = rw e refl
@@ -210,7 +210,7 @@ pub bar_piece : (f : BarForm) (x : List ℕ) → IsBar f → Stops x → IsExact
 unfolding piece_at class_of
 bar_piece (signs d b o zero c a) x good h = absurd (omega (arith, good))
 bar_piece (signs true b o (suc m) c a) x good h =
-    behind_dot b o m c a x ∙ wins _ _ _ (bar_is_read (signs true b o (suc m) c a) x good h)
+    after_dot b o m c a x ∙ wins _ _ _ (bar_is_read (signs true b o (suc m) c a) x good h)
 bar_piece (signs false (suc b) o (suc m) c a) x good h = bar_is_read (signs false (suc b) o (suc m) c a) x good h
 bar_piece (signs false zero true (suc m) c a) x good h = bar_is_read (signs false zero true (suc m) c a) x good h
 bar_piece (signs false zero false (suc m) c a) x good h = bar_is_read (signs false zero false (suc m) c a) x good h
@@ -286,7 +286,7 @@ opened_chord : (f : ChordForm) (x : List ℕ)
     → bracket_form (opening (chord_then f x)) false (chord_then f x) ≡ chord_read false (chord_then f x)
 opened_chord f x h =
     let e : opening (chord_then f x) ≡ BracketOpening.Chord =
-    opening-behind f.inside (length_then f.length x) (length_then f.length []) ∙ h in
+    opening-following f.inside (length_then f.length x) (length_then f.length []) ∙ h in
     rw e refl
 
 pub chord_piece : (f : ChordForm) (x : List ℕ)

@@ -169,9 +169,9 @@ heads_mean (h ∷ hs) good =
     ∙ ap (λ (len : Len). with_len h.0 len ∷ heads_of more) good.0.means
     ∙ ap (λ (list : List (Head × Len)). h ∷ list) others
 
-heads_behind : (ds : List Deco) (ps : List Inner) → heads_of (map sense (deco_parts ds ps)) ≡ heads_of (map sense ps)
-heads_behind [] ps = refl
-heads_behind (d ∷ ds) ps = heads_behind ds ps
+heads_after : (ds : List Deco) (ps : List Inner) → heads_of (map sense (deco_parts ds ps)) ≡ heads_of (map sense ps)
+heads_after [] ps = refl
+heads_after (d ∷ ds) ps = heads_after ds ps
 
 no_decos : (hs : List (Head × Len)) → decos_of (map sense (head_parts hs)) ≡ []
 no_decos [] = refl
@@ -186,15 +186,15 @@ decos_mean (d ∷ ds) ps good none =
 
 pub chord_heads : (hs : List (Head × Len)) (ds : List Deco)
     → GoodHeads hs → heads_of (map sense (deco_parts ds (head_parts hs))) ≡ hs
-chord_heads hs ds good = heads_behind ds (head_parts hs) ∙ heads_mean hs good
+chord_heads hs ds good = heads_after ds (head_parts hs) ∙ heads_mean hs good
 
 pub chord_decos : (hs : List (Head × Len)) (ds : List Deco)
     → GoodDecos ds → decos_of (map sense (deco_parts ds (head_parts hs))) ≡ ds
 chord_decos hs ds good = decos_mean ds (head_parts hs) good (no_decos hs)
 
-head_behind : (ds : List Deco) (ps : List Inner) → has_inner_head (deco_parts ds ps) ≡ has_inner_head ps
-head_behind [] ps = refl
-head_behind (d ∷ ds) ps = head_behind ds ps
+head_after : (ds : List Deco) (ps : List Inner) → has_inner_head (deco_parts ds ps) ≡ has_inner_head ps
+head_after [] ps = refl
+head_after (d ∷ ds) ps = head_after ds ps
 
 -- ---- each part is the longest
 abbrev inner_pair : Inner → List ℕ → Inner × List ℕ
@@ -289,7 +289,7 @@ pub chord_good : (hs : List (Head × Len)) (ds : List Deco) (len : Len)
 chord_good [] ds len some heads decos good = absurd (omega (arith, some))
 chord_good (h ∷ hs) ds len some heads decos good = record {
   parts = decos_parts ds (head_parts (h ∷ hs)) decos (heads_parts (h ∷ hs) heads);
-  head = head_behind ds (head_parts (h ∷ hs));
+  head = head_after ds (head_parts (h ∷ hs));
   length = good.good;
 }
 

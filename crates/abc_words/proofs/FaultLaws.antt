@@ -17,13 +17,13 @@ number_more row before v =
     sum_by-append (λ (w : Verse). cond (w.row == row) 1 0) before (v ∷ []) in
     omega arith
 
-pub fault_free : (before behind : List Verse) (v : Verse)
-    → number_on v.row before < 8 → faults_from before (v ∷ behind) ≡ faults_from (before ++ v ∷ []) behind
-fault_free before behind v few = rw (lt-leb 8 (number_on v.row before) few) refl
+pub fault_free : (before following : List Verse) (v : Verse)
+    → number_on v.row before < 8 → faults_from before (v ∷ following) ≡ faults_from (before ++ v ∷ []) following
+fault_free before following v few = rw (lt-leb 8 (number_on v.row before) few) refl
 
-pub fault_here : (before behind : List Verse) (v : Verse)
-    → 8 ≤ number_on v.row before → first_verse_fault (faults_from before (v ∷ behind)) ≡ Some (too_many v.line)
-fault_here before behind v many = rw (le-leb 8 (number_on v.row before) many) refl
+pub fault_here : (before following : List Verse) (v : Verse)
+    → 8 ≤ number_on v.row before → first_verse_fault (faults_from before (v ∷ following)) ≡ Some (too_many v.line)
+fault_here before following v many = rw (le-leb 8 (number_on v.row before) many) refl
 
 -- a walk along the verses
 pub one_taken : {X : Type 0} (xs : List X) (i : ℕ) (x : X)
@@ -79,21 +79,21 @@ few_more before v few less row = by_row (v.row == row) (λ e. same e) (number_mo
   by_row true same is = let under : number_on row before < 8 = same refl in omega arith
   by_row false same is = let within : number_on row before ≤ 8 = few row in omega arith
 
-none_few : (before behind : List Verse)
-    → first_verse_fault (faults_from before behind) ≡ None → AreFew before → AreFew (before ++ behind)
+none_few : (before following : List Verse)
+    → first_verse_fault (faults_from before following) ≡ None → AreFew before → AreFew (before ++ following)
 unfolding AreFew
 none_few before [] none few = subst AreFew (sym (append-nil before)) few
-none_few before (v ∷ behind) none few =
+none_few before (v ∷ following) none few =
     by_test
-    (λ (less : number_on v.row before < 8). subst AreFew (append_assoc before (v ∷ []) behind)
-    (none_few (before ++ v ∷ []) behind (ap first_verse_fault (sym (fault_free before behind v less)) ∙ none)
+    (λ (less : number_on v.row before < 8). subst AreFew (append_assoc before (v ∷ []) following)
+    (none_few (before ++ v ∷ []) following (ap first_verse_fault (sym (fault_free before following v less)) ∙ none)
     (few_more before v few less)))
     (nat_le 8 (number_on v.row before)) refl where
-      by_test : (number_on v.row before < 8 → AreFew (before ++ v ∷ behind))
-          → (b : Bool) → nat_le 8 (number_on v.row before) ≡ b → AreFew (before ++ v ∷ behind)
+      by_test : (number_on v.row before < 8 → AreFew (before ++ v ∷ following))
+          → (b : Bool) → nat_le 8 (number_on v.row before) ≡ b → AreFew (before ++ v ∷ following)
       by_test goes_on true e =
           let wrong : Some (too_many v.line) ≡ None =
-          sym (fault_here before behind v (leb-true 8 (number_on v.row before) e)) ∙ none in
+          sym (fault_here before following v (leb-true 8 (number_on v.row before) e)) ∙ none in
           absurd cc
       by_test goes_on false e = goes_on (leb-false 8 (number_on v.row before) e)
 

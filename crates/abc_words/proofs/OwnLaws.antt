@@ -21,7 +21,7 @@ use Rattle.abc_words.specs.Words.{notes_on, own_word, row_end, row_ends, row_of,
 use Rattle.abc_words.specs.Words.{word_at, word_of, words_of_events}
 use Rattle.abc_words.specs.declared.music.MusicRow.{MusicRow}
 use Rattle.abc_words.specs.declared.music.SungNote.{SungNote}
-use Rattle.abc_words.specs.Rows.{music_row_at, row_behind, row_count}
+use Rattle.abc_words.specs.Rows.{music_row_at, row_after, row_count}
 use Rattle.abc_words.specs.Verses.{verse_count, verses_of_voice}
 use Rattle.abc_words.proofs.Lines.{row_of_within}
 use Rattle.abc_words.proofs.WordLaws.{or_none}
@@ -147,7 +147,7 @@ one_sings rows verse event own from (suc n) none le less =
           ∙ ap (λ r. word_of (sung_in verse (rows r)) event) here)
 
 -- a body has one more row than ends of rows
-row_more : (i : BodyItem) (row : ℕ) → row_behind i row ≡ row + length (row_end i)
+row_more : (i : BodyItem) (row : ℕ) → row_after i row ≡ row + length (row_end i)
 row_more (BodyItem.Step s) row = omega arith
 row_more (BodyItem.LineEnd joined breaks line column) row = by_test joined where
   by_test : (b : Bool) → cond b row (row + 1) ≡ row + length (end_if b line)
@@ -156,15 +156,15 @@ row_more (BodyItem.LineEnd joined breaks line column) row = by_test joined where
 row_more (BodyItem.Voice def line column) row = omega arith
 row_more (BodyItem.Words text line) row = omega arith
 
-rows_behind : (items before : List BodyItem)
+rows_after : (items before : List BodyItem)
     → music_row_at (reverse items ++ before) ≡ music_row_at before + length (row_ends items)
-rows_behind [] before = omega arith
-rows_behind (i ∷ items) before =
+rows_after [] before = omega arith
+rows_after (i ∷ items) before =
     let turned : reverse (i ∷ items) ++ before ≡ reverse items ++ (i ∷ before) =
     ap (λ xs. xs ++ before) (reverse-append (i ∷ []) items) ∙ append_assoc (reverse items) (i ∷ []) before in
-    let rest : music_row_at (reverse items ++ (i ∷ before)) ≡ row_behind i (music_row_at before) + length
-    (row_ends items) = rows_behind items (i ∷ before) in
-    let here : row_behind i (music_row_at before) ≡ music_row_at before + length (row_end i) =
+    let rest : music_row_at (reverse items ++ (i ∷ before)) ≡ row_after i (music_row_at before) + length
+    (row_ends items) = rows_after items (i ∷ before) in
+    let here : row_after i (music_row_at before) ≡ music_row_at before + length (row_end i) =
     row_more i (music_row_at before) in
     let both : length (row_end i ++ row_ends items) ≡ length (row_end i) + length (row_ends items) =
     length-append (row_end i) (row_ends items) in
@@ -172,7 +172,7 @@ rows_behind (i ∷ items) before =
 
 row_within : (items : List BodyItem) (line : ℕ) → row_of (row_ends items) line < row_count items
 row_within items line =
-    let whole : music_row_at (reverse items ++ []) ≡ music_row_at [] + length (row_ends items) = rows_behind items [] in
+    let whole : music_row_at (reverse items ++ []) ≡ music_row_at [] + length (row_ends items) = rows_after items [] in
     let same : music_row_at (reverse items ++ []) ≡ music_row_at (reverse items) =
     ap music_row_at (append-nil (reverse items)) in
     let most : row_of (row_ends items) line ≤ length (row_ends items) = row_of_within (row_ends items) line in

@@ -8,7 +8,7 @@ use Rattle.std.specs.List.{All, list_any, range_with_len}
 use Rattle.abc_steps.specs.declared.step.BodyItem.{BodyItem}
 use Rattle.abc_words.specs.declared.rows.RowState.{RowState}
 use Rattle.abc_words.specs.declared.verses.Verse.{Verse}
-use Rattle.abc_words.specs.Rows.{row_behind, music_row_at, row_count, is_line_of, last_row, place_at}
+use Rattle.abc_words.specs.Rows.{row_after, music_row_at, row_count, is_line_of, last_row, place_at}
 use Rattle.abc_words.specs.Verses.{is_words_item, verse_if, verse_at, verses_from, verses_of_voice, number_on}
 use Rattle.abc_words.specs.Verses.{verse_count, faults_from, first_verse_fault, verse_fault}
 
@@ -19,7 +19,7 @@ abbrev LastWithin : ℕ → Option ℕ → Type 0
 LastWithin n None = ⊤
 LastWithin n (Some row) = row < n
 
-row_before : (i : BodyItem) (row n : ℕ) → row_behind i row < n → row < n
+row_before : (i : BodyItem) (row n : ℕ) → row_after i row < n → row < n
 row_before (BodyItem.Step s) row n less = less
 row_before (BodyItem.LineEnd joined breaks line column) row n less = by_test joined less where
   by_test : (b : Bool) → cond b row (row + 1) < n → row < n
@@ -55,9 +55,11 @@ verse_within place (BodyItem.Words text line) n h = by_cases place.current place
   by_cases false last h = All-nil (IsWithin n)
 
 -- rows never decrease
-rows_rise : (behind before : List BodyItem) (n : ℕ) → music_row_at (behind ++ before) < n → music_row_at before < n
+rows_rise : (following before : List BodyItem) (n : ℕ)
+    → music_row_at (following ++ before) < n → music_row_at before < n
 rows_rise [] before n less = less
-rows_rise (i ∷ behind) before n less = rows_rise behind before n (row_before i (music_row_at (behind ++ before)) n less)
+rows_rise (i ∷ following) before n less =
+    rows_rise following before n (row_before i (music_row_at (following ++ before)) n less)
 
 one_on : (i : BodyItem) (before items : List BodyItem) → reverse (i ∷ items) ++ before ≡ reverse items ++ (i ∷ before)
 one_on i before items =

@@ -8,13 +8,13 @@ use Rattle.abc_items.specs.Voices.{claims, voice_next}
 use Rattle.abc_words.specs.declared.rows.RowState.{RowState}
 
 -- the row of a place: the number of music lines before it that end without a backslash
-abbrev pub row_behind : BodyItem → ℕ → ℕ
-row_behind (BodyItem.LineEnd joined breaks line column) row = if joined then row else row + 1
-row_behind _ row = row
+abbrev pub row_after : BodyItem → ℕ → ℕ
+row_after (BodyItem.LineEnd joined breaks line column) row = if joined then row else row + 1
+row_after _ row = row
 
 abbrev pub music_row_at : List BodyItem → ℕ
 music_row_at [] = 0
-music_row_at (i ∷ before) = row_behind i (music_row_at before)
+music_row_at (i ∷ before) = row_after i (music_row_at before)
 
 -- the number of rows of a body, including the one at its end
 abbrev pub row_count : List BodyItem → ℕ
@@ -66,12 +66,12 @@ place_at id unnamed before = record {
 }
 
 -- the state after a step, and after the end of a music line
-abbrev pub behind_step : RowState → Bool → RowState
-behind_step place claims =
+abbrev pub after_step : RowState → Bool → RowState
+after_step place claims =
     record place { claimed = claims || place.claimed; own = (claims && place.current) || place.own }
 
-abbrev pub behind_end : RowState → Bool → RowState
-behind_end place joined = record {
+abbrev pub after_end : RowState → Bool → RowState
+after_end place joined = record {
   row = if joined then place.row else place.row + 1;
   current = place.current;
   claimed = false;

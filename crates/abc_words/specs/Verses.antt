@@ -26,8 +26,8 @@ is_words_item _ = false
 
 abbrev pub verses_from : List ℕ → List ℕ → List BodyItem → List BodyItem → List Verse
 verses_from id unnamed before [] = []
-verses_from id unnamed before (i ∷ behind) =
-    verse_at (place_at id unnamed before) i ++ verses_from id unnamed (i ∷ before) behind
+verses_from id unnamed before (i ∷ following) =
+    verse_at (place_at id unnamed before) i ++ verses_from id unnamed (i ∷ before) following
 
 -- the verses of a voice, in the order of the text
 abbrev pub verses_of_voice : List ℕ → List ℕ → List BodyItem → List Verse
@@ -52,7 +52,7 @@ fault_in before v = if nat_le 8 (number_on v.row before) then too_many v.line �
 
 abbrev pub faults_from : List Verse → List Verse → List Fault
 faults_from before [] = []
-faults_from before (v ∷ behind) = fault_in before v ++ faults_from (before ++ v ∷ []) behind
+faults_from before (v ∷ following) = fault_in before v ++ faults_from (before ++ v ∷ []) following
 
 abbrev pub verse_faults : List ℕ → List ℕ → List BodyItem → List Fault
 verse_faults id unnamed items = faults_from [] (verses_of_voice id unnamed items)

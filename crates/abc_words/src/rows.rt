@@ -1,7 +1,7 @@
 ghost use Rattle.std.specs.Prelude.{◌≡◌, ◌<◌, ◌≤◌, ◌+◌, ◌^◌, ◌∷◌, [], List, ℕ, reverse, length};
 ghost use Rattle.std.specs.Str.{bytes_eq};
 ghost use Rattle.abc_steps.specs.declared.step.BodyItem.{BodyItem};
-ghost use Rattle.abc_words.specs.Rows.{behind_end, behind_step, place_at};
+ghost use Rattle.abc_words.specs.Rows.{after_end, after_step, place_at};
 
 use abc_items::voices::claims;
 use abc_steps::BodyItem;
@@ -38,8 +38,8 @@ pub(crate) fn first_place(id: &[u8], unnamed: &[u8]) -> RowState
 }
 
 /// Returns the state after a step.
-fn behind_step(place: RowState, claims: bool) -> RowState
-    ensures { result ≡ behind_step place claims }
+fn after_step(place: RowState, claims: bool) -> RowState
+    ensures { result ≡ after_step place claims }
 {
     RowState {
         claimed: claims || place.claimed,
@@ -49,9 +49,9 @@ fn behind_step(place: RowState, claims: bool) -> RowState
 }
 
 /// Returns the state after the end of a music line.
-fn behind_end(place: RowState, joined: bool) -> RowState
+fn after_end(place: RowState, joined: bool) -> RowState
     requires { place.row + 1 < 2 ^ 64 }
-    ensures { result ≡ behind_end place joined }
+    ensures { result ≡ after_end place joined }
 {
     let line_of = place.own || (!place.claimed && place.current);
     RowState {
@@ -71,8 +71,8 @@ pub(crate) fn state_after(id: &[u8], place: RowState, item: &BodyItem) -> RowSta
     ensures row { result.row ≤ place.row + 1 }
 {
     match item {
-        BodyItem::Step(stood) => behind_step(place, claims(&stood.step)),
-        BodyItem::LineEnd { joined, .. } => behind_end(place, *joined),
+        BodyItem::Step(stood) => after_step(place, claims(&stood.step)),
+        BodyItem::LineEnd { joined, .. } => after_end(place, *joined),
         BodyItem::Voice { def, .. } => RowState {
             current: is_same(id, def.id.as_slice()),
             ..place

@@ -15,20 +15,21 @@ Is called other = other ≡ called
 
 -- both texts were written
 answered_whole : (called : Called) (o e : Stream) (s : Status)
-    → IsCompleteStatus s → s ≡ called.status → WroteWhole o called.page → WroteWhole e called.told
+    → IsCompleteStatus s → s ≡ called.status → WroteWhole o called.page → WroteWhole e called.reported
     → IsAnswered (Is called) s o e
-answered_whole called o e Status.Done end is page told = (called, refl, is, page, told)
-answered_whole called o e Status.SomeRefused end is page told = (called, refl, is, page, told)
-answered_whole called o e Status.NotLeast end is page told = (called, refl, is, page, told)
-answered_whole called o e s end is page told = absurd end
+answered_whole called o e Status.Done end is page reported = (called, refl, is, page, reported)
+answered_whole called o e Status.SomeRefused end is page reported = (called, refl, is, page, reported)
+answered_whole called o e Status.NotLeast end is page reported = (called, refl, is, page, reported)
+answered_whole called o e s end is page reported = absurd end
 
 -- output has its whole text, and then errors got its own
 pub answered_end : (called : Called) (o e : Stream) (s : Status)
     → IsCompleteStatus called.status → WroteWhole o called.page
-    → ((s ≡ called.status) × WroteWhole e called.told) ⊎ ((s ≡ Status.WriteFault) × FailedAfterPrefix e called.told)
+    → ((s ≡ called.status) × WroteWhole e called.reported)
+    ⊎ ((s ≡ Status.WriteFault) × FailedAfterPrefix e called.reported)
     → IsAnswered (Is called) s o e
-answered_end called o e s end page (inl told) =
-    answered_whole called o e s (subst IsCompleteStatus (sym told.0) end) told.0 page told.1
+answered_end called o e s end page (inl reported) =
+    answered_whole called o e s (subst IsCompleteStatus (sym reported.0) end) reported.0 page reported.1
 answered_end called o e s end page (inr cut) =
     subst (λ t. IsAnswered (Is called) t o e) (sym cut.0) (called, refl, inr (page, cut.1))
 
@@ -68,10 +69,10 @@ pub answer_refused : (c : Command) (text : List ℕ) (refusal : Refusal) (o e : 
     → IsAnswer c s text o e
 answer_refused c text refusal o e s refuses quiet (inl none) =
     subst (λ t. IsAnswer c t text o e) (sym none.0) (none.1, inl quiet)
-answer_refused c text (Refusal.NotPages line) o e s refuses quiet (inr told) =
-    subst (λ t. IsAnswer c t text o e) (sym told.0) (Refusal.NotPages line, refuses, refl, quiet, told.1)
-answer_refused c text (Refusal.Halted token cause) o e s refuses quiet (inr told) =
-    subst (λ t. IsAnswer c t text o e) (sym told.0) (Refusal.Halted token cause, refuses, refl, quiet, told.1)
+answer_refused c text (Refusal.NotPages line) o e s refuses quiet (inr reported) =
+    subst (λ t. IsAnswer c t text o e) (sym reported.0) (Refusal.NotPages line, refuses, refl, quiet, reported.1)
+answer_refused c text (Refusal.Halted token cause) o e s refuses quiet (inr reported) =
+    subst (λ t. IsAnswer c t text o e) (sym reported.0) (Refusal.Halted token cause, refuses, refl, quiet, reported.1)
 
 -- what was read by a command that reads
 pub read_of : (c : Command) (i : Stream) (text : List ℕ)

@@ -16,7 +16,7 @@ use Rattle.abcps.specs.Outcome.{WroteWhole}
 use Rattle.abcps.specs.Progress.{CanAdd, IsBegun, IsSameProgress, rest_text, text_so_far}
 use Rattle.abcps.specs.declared.building.BookProgress.{BookProgress}
 use Rattle.abcps.proofs.Batches.{no_text}
-use Rattle.abcps.proofs.Sent.{document_parts, stream, took_behind}
+use Rattle.abcps.proofs.Sent.{document_parts, stream, took_after}
 
 -- all outcomes of a plan can be added at once
 pub can_add_all : (even : Bool) (plan : PagePlan) (paper : Paper) (outcomes : List Outcome) (r : BookProgress)
@@ -54,10 +54,10 @@ module _ (plan : PagePlan) (paper : Paper) (outcomes : List Outcome) (r : BookPr
         → WroteWhole (stream some more k j) text → WroteWhole (stream more all j l) (rest_text next.press.begun)
         → WroteWhole (stream start all n l) (document (sheet_of plan paper outcomes))
     document_written start some more all n k j l first texts rest =
-        let two = took_behind start some more n k j (prolog (paper_frame paper)) first.0 first.1 text texts in
+        let two = took_after start some more n k j (prolog (paper_frame paper)) first.0 first.1 text texts in
         let end = subst (λ (p : PageBuilder). WroteWhole (stream more all j l) (rest_text p.begun)) same.press rest in
         let three =
-        took_behind start more all n j l (prolog (paper_frame paper) ++ text) two.0 two.1 (rest_text r.press.begun)
+        took_after start more all n j l (prolog (paper_frame paper) ++ text) two.0 two.1 (rest_text r.press.begun)
         end in
         subst (λ t. WroteWhole (stream start all n l) t)
         (ap (λ t. t ++ rest_text r.press.begun) (sym all_text)

@@ -38,15 +38,15 @@ use Rattle.abcps.specs.Called.{Called, IsQuietly}
 use Rattle.set_tune.specs.Terms.{Manner, manner_by, unmoved}
 
 abbrev called_of : List ℕ → List ℕ → Status → Called
-called_of page told status = record { page = page; told = told; status = status }
+called_of page reported status = record { page = page; reported = reported; status = status }
 
 -- what is called for, in parts
-same_called : (c d : Called) → c.page ≡ d.page → c.told ≡ d.told → c.status ≡ d.status → c ≡ d
-same_called c d page told status =
-    let made : called_of c.page c.told c.status ≡ called_of d.page d.told d.status = cc in made
+same_called : (c d : Called) → c.page ≡ d.page → c.reported ≡ d.reported → c.status ≡ d.status → c ≡ d
+same_called c d page reported status =
+    let made : called_of c.page c.reported c.status ≡ called_of d.page d.reported d.status = cc in made
 
 quiet_called : (c d : Called) → c.page ≡ d.page → IsQuietly c → IsQuietly d → c ≡ d
-quiet_called c d page a b = same_called c d page (a.told ∙ sym b.told) (a.status ∙ sym b.status)
+quiet_called c d page a b = same_called c d page (a.reported ∙ sym b.reported) (a.status ∙ sym b.status)
 
 -- ---- the commands that set a book
 one_set : HaveOneOutcome
@@ -73,7 +73,7 @@ pages_once one manner even text c d a b =
     ∙ by_plan (λ p os. document (sheet_of p (paper_in text) os)) even (paper_in text) a.outcomes b.outcomes a.plan
     b.plan same a.parted b.parted
     ∙ ap document (sym b.whole) ∙ b.read.spelled)
-    (a.told ∙ ap reports same ∙ sym b.told)
+    (a.reported ∙ ap reports same ∙ sym b.reported)
     (a.status ∙ ap status_of same ∙ sym b.status)
 
 systems_once : HaveOneOutcome
@@ -84,7 +84,7 @@ systems_once one manner table text c d a b =
     let same = one_set one manner text a.outcomes b.outcomes a.set b.set in
     same_called c d
     (a.page ∙ ap (systems_by table) same ∙ sym b.page)
-    (a.told ∙ ap reports same ∙ sym b.told)
+    (a.reported ∙ ap reports same ∙ sym b.reported)
     (a.status ∙ ap status_of same ∙ sym b.status)
 
 trial_once : HaveOneOutcome
@@ -149,7 +149,7 @@ judged_once text js ks a b =
 verdicts_once : (text : List ℕ) (c d : Called) → Judges text c → Judges text d → c ≡ d
 verdicts_once text c d a b =
     let same = judged_once text a.judged b.judged a.verdicts b.verdicts in
-    same_called c d (a.page ∙ ap verdicts_text same ∙ sym b.page) (a.told ∙ sym b.told)
+    same_called c d (a.page ∙ ap verdicts_text same ∙ sym b.page) (a.reported ∙ sym b.reported)
     (a.status ∙ ap status_by same ∙ sym b.status)
 
 painted_once : HasOneAnswer → (text : List ℕ) (c d : Called) → IsPainted text c → IsPainted text d → c ≡ d

@@ -13,21 +13,21 @@ use Rattle.abcps.specs.Outcome.{IsRunAnswer, ReadAll, ReadTooMuch, WroteWhole, W
 use Rattle.abcps.specs.Promises.{IsDone, IsRunOn, IsRefused, IsReportedOn, AsksWholeText, NoFault, Promises}
 
 -- a source whose bytes are known was read to its end: they are the text
-whole_read : (before after : Option (List ℕ)) (told text : List ℕ)
-    → before ≡ Some told → Consumes before after text → IsAtEnd after → text ≡ told
-whole_read None after told text e taken end = cc
-whole_read (Some xs) None told text e taken end = absurd taken
-whole_read (Some xs) (Some ys) told text e taken end =
-    let all : xs ≡ told = cc in sym (sym all ∙ taken ∙ ap (λ zs. text ++ zs) end ∙ append-nil text)
+whole_read : (before after : Option (List ℕ)) (reported text : List ℕ)
+    → before ≡ Some reported → Consumes before after text → IsAtEnd after → text ≡ reported
+whole_read None after reported text e taken end = cc
+whole_read (Some xs) None reported text e taken end = absurd taken
+whole_read (Some xs) (Some ys) reported text e taken end =
+    let all : xs ≡ reported = cc in sym (sym all ∙ taken ∙ ap (λ zs. text ++ zs) end ∙ append-nil text)
 
 -- what was read is no longer than what there was
-taken_short : (before after : Option (List ℕ)) (told text : List ℕ)
-    → before ≡ Some told → Consumes before after text → length text ≤ length told
-taken_short None after told text e taken = cc
-taken_short (Some xs) None told text e taken = absurd taken
-taken_short (Some xs) (Some ys) told text e taken =
-    let all : xs ≡ told = cc in
-    let sum : length told ≡ length (text ++ ys) = ap length (sym all ∙ taken) in
+taken_short : (before after : Option (List ℕ)) (reported text : List ℕ)
+    → before ≡ Some reported → Consumes before after text → length text ≤ length reported
+taken_short None after reported text e taken = cc
+taken_short (Some xs) None reported text e taken = absurd taken
+taken_short (Some xs) (Some ys) reported text e taken =
+    let all : xs ≡ reported = cc in
+    let sum : length reported ≡ length (text ++ ys) = ap length (sym all ∙ taken) in
     let both = length-append text ys in
     omega arith
 
@@ -39,16 +39,16 @@ module _ (alone : CallsOne) (either : NeverBoth) (words : List (List ℕ)) (i o 
   -- the answer when both texts are written
   done_with : (c : Command) (text : List ℕ) (s : Status)
       → (called : Called) → Calls c text called → s ≡ called.status → WroteWhole o called.page
-      → WroteWhole e called.told
+      → WroteWhole e called.reported
       → IsDone c s text o e
-  done_with c text s called calls ends page told = record {
+  done_with c text s called calls ends page reported = record {
     called = called;
     calls = calls;
     only = λ d other same more. alone c d text called other same calls more;
     unrefused = λ refusal refuses. either c text called refusal calls refuses;
     ends = ends;
     page = page;
-    told = told;
+    reported = reported;
   }
 
   done_by : (s : Status) → IsRunAnswer s words i o e → (s ≡ Status.Usage → ⊥) → (s ≡ Status.ReadFault → ⊥)
@@ -79,8 +79,8 @@ module _ (alone : CallsOne) (either : NeverBoth) (words : List (List ℕ)) (i o 
   memory_by run = (run.2.0, memory_part run.0 run.1 run.2.1)
 
   -- the text that a command read is that of the input
-  told_all : (most : ℕ) (told text : List ℕ) → i.before ≡ Some told → ReadAll most i text → text ≡ told
-  told_all most told text is read = whole_read i.before i.after told text is read.taken read.whole
+  reported_all : (most : ℕ) (reported text : List ℕ) → i.before ≡ Some reported → ReadAll most i text → text ≡ reported
+  reported_all most reported text is read = whole_read i.before i.after reported text is read.taken read.whole
 
   -- a command reads its input, or none
   reads_or_not : (c : Command) → ReadsInput c ⊎ (ReadsInput c → ⊥)
@@ -88,45 +88,45 @@ module _ (alone : CallsOne) (either : NeverBoth) (words : List (List ℕ)) (i o 
   reads_or_not (Command.Trial tunes flow jobs even) = inr (λ reads. reads)
   reads_or_not c = inl tt
 
-  told_reader : (c : Command) (told : List ℕ)
-      → ReadsInput c → IsReportedOn c i told → (i.before ≡ Some told) × (length told ≤ limit_of c)
-  told_reader (Command.Make tunes) told reads is = absurd reads
-  told_reader (Command.Trial tunes flow jobs even) told reads is = absurd reads
-  told_reader c told reads is = is
+  reported_reader : (c : Command) (reported : List ℕ)
+      → ReadsInput c → IsReportedOn c i reported → (i.before ≡ Some reported) × (length reported ≤ limit_of c)
+  reported_reader (Command.Make tunes) reported reads is = absurd reads
+  reported_reader (Command.Trial tunes flow jobs even) reported reads is = absurd reads
+  reported_reader c reported reads is = is
 
   read_reader : (c : Command) (text : List ℕ) → ReadsInput c → IsInputRead c i text → ReadAll (limit_of c) i text
   read_reader (Command.Make tunes) text reads read = absurd reads
   read_reader (Command.Trial tunes flow jobs even) text reads read = absurd reads
   read_reader c text reads read = read
 
-  read_told : (c : Command) (told text : List ℕ)
-      → ReadsInput c → IsReportedOn c i told → IsInputRead c i text → text ≡ told
-  read_told c told text reads is read =
-      told_all (limit_of c) told text (told_reader c told reads is).0 (read_reader c text reads read)
+  read_reported : (c : Command) (reported text : List ℕ)
+      → ReadsInput c → IsReportedOn c i reported → IsInputRead c i text → text ≡ reported
+  read_reported c reported text reads is read =
+      reported_all (limit_of c) reported text (reported_reader c reported reads is).0 (read_reader c text reads read)
 
   -- a command that reads nothing calls for the same with any text
-  unread_calls : (c : Command) (told text : List ℕ) (called : Called)
-      → (ReadsInput c → ⊥) → Calls c text called → Calls c told called
-  unread_calls (Command.Make tunes) told text called not calls = calls
-  unread_calls (Command.Trial tunes flow jobs even) told text called not calls = calls
-  unread_calls c told text called not calls = absurd (not tt)
+  unread_calls : (c : Command) (reported text : List ℕ) (called : Called)
+      → (ReadsInput c → ⊥) → Calls c text called → Calls c reported called
+  unread_calls (Command.Make tunes) reported text called not calls = calls
+  unread_calls (Command.Trial tunes flow jobs even) reported text called not calls = calls
+  unread_calls c reported text called not calls = absurd (not tt)
 
-  calls_told : (c : Command) (told text : List ℕ) (called : Called)
-      → IsReportedOn c i told → IsInputRead c i text → Calls c text called → Calls c told called
-  calls_told c told text called is read calls = by_reading (reads_or_not c)
+  calls_reported : (c : Command) (reported text : List ℕ) (called : Called)
+      → IsReportedOn c i reported → IsInputRead c i text → Calls c text called → Calls c reported called
+  calls_reported c reported text called is read calls = by_reading (reads_or_not c)
     where
-      by_reading : ReadsInput c ⊎ (ReadsInput c → ⊥) → Calls c told called
-      by_reading (inl reads) = subst (λ t. Calls c t called) (read_told c told text reads is read) calls
-      by_reading (inr not) = unread_calls c told text called not calls
+      by_reading : ReadsInput c ⊎ (ReadsInput c → ⊥) → Calls c reported called
+      by_reading (inl reads) = subst (λ t. Calls c t called) (read_reported c reported text reads is read) calls
+      by_reading (inr not) = unread_calls c reported text called not calls
 
   -- what was called for was done, for the text of the input
-  done_told : (c : Command) (told : List ℕ) (s : Status)
-      → IsReportedOn c i told → (text : List ℕ) → IsInputRead c i text
+  done_reported : (c : Command) (reported : List ℕ) (s : Status)
+      → IsReportedOn c i reported → (text : List ℕ) → IsInputRead c i text
       → (called : Called) → Calls c text called → s ≡ called.status → WroteWhole o called.page
-      → WroteWhole e called.told
-      → IsDone c s told o e
-  done_told c told s is text read called calls ends page tells =
-      done_with c told s called (calls_told c told text called is read calls) ends page tells
+      → WroteWhole e called.reported
+      → IsDone c s reported o e
+  done_reported c reported s is text read called calls ends page tells =
+      done_with c reported s called (calls_reported c reported text called is read calls) ends page tells
 
   -- an input that was refused
   refused_with : (c : Command) (text : List ℕ) (s : Status) → RefusedInput c s text o e → IsRefused c s text o e
@@ -136,7 +136,7 @@ module _ (alone : CallsOne) (either : NeverBoth) (words : List (List ℕ)) (i o 
     uncalled = λ called calls. either c text called r.0 calls r.1;
     ends = r.2;
     quiet = r.3;
-    told = r.4;
+    reported = r.4;
   }
 
   -- a command that refuses its input reads it
@@ -147,13 +147,13 @@ module _ (alone : CallsOne) (either : NeverBoth) (words : List (List ℕ)) (i o 
   refused_reads Command.Paint text refusal refuses = tt
   refused_reads c text refusal refuses = absurd refuses
 
-  refused_told : (c : Command) (told : List ℕ) (s : Status)
-      → IsReportedOn c i told → (text : List ℕ) → IsInputRead c i text → RefusedInput c s text o e
-      → IsRefused c s told o e
-  refused_told c told s is text read r =
-      refused_with c told s (
+  refused_reported : (c : Command) (reported : List ℕ) (s : Status)
+      → IsReportedOn c i reported → (text : List ℕ) → IsInputRead c i text → RefusedInput c s text o e
+      → IsRefused c s reported o e
+  refused_reported c reported s is text read r =
+      refused_with c reported s (
         r.0,
-        subst (λ t. Refuses c t r.0) (read_told c told text (refused_reads c text r.0 r.1) is read) r.1,
+        subst (λ t. Refuses c t r.0) (read_reported c reported text (refused_reads c text r.0 r.1) is read) r.1,
         r.2,
         r.3,
         r.4,
@@ -168,14 +168,15 @@ module _ (alone : CallsOne) (either : NeverBoth) (words : List (List ℕ)) (i o 
       (run.0, run.2.0, record { asked = run.1; read = run.2.1 }, refused_with run.0 run.2.0 Status.Halted run.2.2)
   refused_by s run is = absurd is
 
-  too_long : (most : ℕ) (told text : List ℕ)
-      → (i.before ≡ Some told) × (length told ≤ most) → ReadTooMuch most i text → ⊥
-  too_long most told text is read =
-      let short = taken_short i.before i.after told text is.0 read.taken in omega (arith, short, read.past, is.1)
+  too_long : (most : ℕ) (reported text : List ℕ)
+      → (i.before ≡ Some reported) × (length reported ≤ most) → ReadTooMuch most i text → ⊥
+  too_long most reported text is read =
+      let short = taken_short i.before i.after reported text is.0 read.taken in omega (arith, short, read.past, is.1)
 
-  not_too_long : (c : Command) (told text : List ℕ)
-      → ReadsInput c → IsReportedOn c i told → ReadTooMuch (limit_of c) i text → ⊥
-  not_too_long c told text reads is read = too_long (limit_of c) told text (told_reader c told reads is) read
+  not_too_long : (c : Command) (reported text : List ℕ)
+      → ReadsInput c → IsReportedOn c i reported → ReadTooMuch (limit_of c) i text → ⊥
+  not_too_long c reported text reads is read =
+      too_long (limit_of c) reported text (reported_reader c reported reads is) read
 
   not_cut : (called : Called) → NoFault i o e → WriteFailed called o e → ⊥
   not_cut called good (inl cut) = good.output cut.0.2
@@ -187,19 +188,21 @@ module _ (alone : CallsOne) (either : NeverBoth) (words : List (List ℕ)) (i o 
 
   -- a command was obeyed, no fault was counted, and memory was found
   obeyed_as : (c : Command) (s : Status)
-      → IsCommandAnswer c s i o e → (told : List ℕ) → NoFault i o e → IsReportedOn c i told → (s ≡ Status.Memory → ⊥)
+      → IsCommandAnswer c s i o e → (reported : List ℕ) → NoFault i o e → IsReportedOn c i reported
+      → (s ≡ Status.Memory → ⊥)
       → (s ≡ Status.Usage → ⊥)
-      → IsDone c s told o e ⊎ IsRefused c s told o e
-  obeyed_as c Status.Usage r told good is ample listed = absurd (listed refl)
-  obeyed_as c Status.ReadFault r told good is ample listed = absurd (good.input r.1)
-  obeyed_as c Status.TooLong r told good is ample listed = absurd (not_too_long c told r.1.0 r.0 is r.1.1)
-  obeyed_as c Status.Memory r told good is ample listed = absurd (ample refl)
-  obeyed_as c Status.WriteFault (text, read, r) told good is ample listed = absurd (not_failed c text good r)
-  obeyed_as c Status.NotPages (text, read, r) told good is ample listed =
-      inr (refused_told c told Status.NotPages is text read r)
-  obeyed_as c Status.Halted (text, read, r) told good is ample listed =
-      inr (refused_told c told Status.Halted is text read r)
-  obeyed_as c s (text, read, r) told good is ample listed = inl (done_told c told s is text read r.0 r.1 r.2 r.3 r.4)
+      → IsDone c s reported o e ⊎ IsRefused c s reported o e
+  obeyed_as c Status.Usage r reported good is ample listed = absurd (listed refl)
+  obeyed_as c Status.ReadFault r reported good is ample listed = absurd (good.input r.1)
+  obeyed_as c Status.TooLong r reported good is ample listed = absurd (not_too_long c reported r.1.0 r.0 is r.1.1)
+  obeyed_as c Status.Memory r reported good is ample listed = absurd (ample refl)
+  obeyed_as c Status.WriteFault (text, read, r) reported good is ample listed = absurd (not_failed c text good r)
+  obeyed_as c Status.NotPages (text, read, r) reported good is ample listed =
+      inr (refused_reported c reported Status.NotPages is text read r)
+  obeyed_as c Status.Halted (text, read, r) reported good is ample listed =
+      inr (refused_reported c reported Status.Halted is text read r)
+  obeyed_as c s (text, read, r) reported good is ample listed =
+      inl (done_reported c reported s is text read r.0 r.1 r.2 r.3 r.4)
 
   -- the answer of this command, when the words ask for it
   obeyed : AsksOne → (d : Command) (s : Status) → IsRunAnswer s words i o e → Asks words d
@@ -211,7 +214,7 @@ module _ (alone : CallsOne) (either : NeverBoth) (words : List (List ℕ)) (i o 
       → IsRunOn c words i o e text → (s ≡ Status.Memory → ⊥)
       → IsDone c s text o e ⊎ IsRefused c s text o e
   answered_as one s run c text given ample =
-      let r = obeyed one c s run given.asked in obeyed_as c s r.1 text given.good given.told ample r.0
+      let r = obeyed one c s run given.asked in obeyed_as c s r.1 text given.good given.reported ample r.0
 
   pub promised : AsksOne → (s : Status) → IsRunAnswer s words i o e → Promises s words i o e
   promised one s run = record {

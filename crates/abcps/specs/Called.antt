@@ -4,10 +4,10 @@ use Rattle.abcps.specs.declared.status.Status.{Status}
 
 pub record Called : Type 0 where
   pub page : List ℕ
-  pub told : List ℕ
+  pub reported : List ℕ
   pub status : Status
 
 -- nothing on errors, and everything is done
 pub record IsQuietly (c : Called) : Type 0 where
-  pub told : c.told ≡ []
+  pub reported : c.reported ≡ []
   pub status : c.status ≡ Status.Done

@@ -48,7 +48,7 @@ pub record Judges (text : List ℕ) (c : Called) : Type 0 where
   pub judged : List Judged
   pub verdicts : IsJudged text judged
   pub page : c.page ≡ verdicts_text judged
-  pub told : c.told ≡ []
+  pub reported : c.reported ≡ []
   pub status : c.status ≡ status_by judged
 
 -- For `make`: the generated book.

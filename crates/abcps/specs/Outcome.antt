@@ -70,7 +70,7 @@ ReportsLine s line = WroteWhole s line ⊎ FailedAfterPrefix s line
 -- Output failed, and errors has nothing; or output has the whole text, and errors failed.
 abbrev pub WriteFailed : Called → Stream → Stream → Type 0
 WriteFailed called o e =
-    (FailedAfterPrefix o called.page × IsQuiet e) ⊎ (WroteWhole o called.page × FailedAfterPrefix e called.told)
+    (FailedAfterPrefix o called.page × IsQuiet e) ⊎ (WroteWhole o called.page × FailedAfterPrefix e called.reported)
 
 -- `set` ended while some tunes of its book were left. Each tune has an outcome all the same. What output took is a
 -- prefix of the document of all of them, and of the document of the first of them, fewer than all, by the same plan;
@@ -125,7 +125,7 @@ IsCompleteStatus _ = ⊥
 -- both texts were written, and the status is the one that goes with them
 abbrev pub WroteBoth : (Called → Type 0) → Status → Stream → Stream → Type 0
 WroteBoth C s o e =
-    (called : Called) × C called × (s ≡ called.status) × WroteWhole o called.page × WroteWhole e called.told
+    (called : Called) × C called × (s ≡ called.status) × WroteWhole o called.page × WroteWhole e called.reported
 
 -- the answer when something is called for
 abbrev pub IsAnswered : (Called → Type 0) → Status → Stream → Stream → Type 0

@@ -48,7 +48,7 @@ WroteOrStopped s text (Err why) = StoppedAfterPrefix why s text
 pub record IsRunning (plan : PagePlan) (paper : Paper) (outcomes : List Outcome) (r : BookProgress) : Type 0 where
   pub pressed : IsBuiltFrom plan paper outcomes r.press
   pub free : CanGoOn r.press
-  pub told : r.told ≡ reports outcomes
+  pub reported : r.reported ≡ reports outcomes
   pub refused : r.refused ≡ some_fault outcomes
   pub uncounted : r.writer.pages ≡ 0
 
@@ -85,7 +85,7 @@ WillRun plan paper before outcomes placed r =
 -- the same except for what the writer has written
 pub record IsSameProgress (r next : BookProgress) : Type 0 where
   pub press : next.press ≡ r.press
-  pub told : next.told ≡ r.told
+  pub reported : next.reported ≡ r.reported
   pub refused : next.refused ≡ r.refused
   pub uncounted : next.writer.pages ≡ 0
 
@@ -126,7 +126,10 @@ rest_text begun = ending begun ++ trailer begun
 
 abbrev pub IsFinished : List Outcome → ℕ → Stream → Result WrittenBook Status → Type 0
 IsFinished outcomes begun o (Ok p) =
-    WroteWhole o (rest_text begun) × (p.told ≡ reports outcomes) × (p.status ≡ status_of outcomes) × (p.pages ≡ begun)
+    WroteWhole o (rest_text begun)
+    × (p.reported ≡ reports outcomes)
+    × (p.status ≡ status_of outcomes)
+    × (p.pages ≡ begun)
 IsFinished outcomes begun o (Err why) = StoppedAfterPrefix why o (rest_text begun)
 
 -- these tunes were set, and the document was written up to their last block
@@ -171,7 +174,7 @@ abbrev pub IsBookWritten : Manner → Bool → List ℕ → Stream → Result Wr
 IsBookWritten manner even text o (Ok p) =
     (called : Called)
     × CallsPages manner even text called
-    × (p.told ≡ called.told)
+    × (p.reported ≡ called.reported)
     × (p.status ≡ called.status)
     × WroteWhole o called.page
 IsBookWritten manner even text o (Err why) = IsUnwritten manner even text o why

@@ -28,7 +28,7 @@ IsReportedOn c i text = (i.before ≡ Some text) × (length text ≤ limit_of c)
 pub record IsRunOn (c : Command) (words : List (List ℕ)) (i o e : Stream) (text : List ℕ) : Type 0 where
   pub asked : Asks words c
   pub good : NoFault i o e
-  pub told : IsReportedOn c i text
+  pub reported : IsReportedOn c i text
 
 -- the words ask for a command, which read this whole text, or reads none
 pub record AsksWholeText (c : Command) (words : List (List ℕ)) (i : Stream) (text : List ℕ) : Type 0 where
@@ -44,7 +44,7 @@ pub record IsDone (c : Command) (s : Status) (text : List ℕ) (o e : Stream) : 
   pub unrefused : (refusal : Refusal) → Refuses c text refusal → ⊥
   pub ends : s ≡ called.status
   pub page : WroteWhole o called.page
-  pub told : WroteWhole e called.told
+  pub reported : WroteWhole e called.reported
 
 -- The input is refused: nothing is called for, the status is the refusal's, output has nothing, and the refusal's
 -- line was reported on errors.
@@ -54,7 +54,7 @@ pub record IsRefused (c : Command) (s : Status) (text : List ℕ) (o e : Stream)
   pub uncalled : (called : Called) → Calls c text called → ⊥
   pub ends : s ≡ refusal_status refusal
   pub quiet : IsQuiet o
-  pub told : ReportsLine e (refusal_line refusal)
+  pub reported : ReportsLine e (refusal_line refusal)
 
 pub record Promises (s : Status) (words : List (List ℕ)) (i o e : Stream) : Type 0 where
   -- the status is usage exactly when the words say so, whatever the streams do

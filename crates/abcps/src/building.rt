@@ -25,7 +25,7 @@ use std::alloc::Global;
 #[derive(Drop)]
 pub(crate) struct BookProgress {
     press: PageBuilder,
-    told: Text,
+    reported: Text,
     refused: bool,
     writer: DocWriter,
 }
@@ -35,7 +35,7 @@ pub(crate) struct BookProgress {
 #[derive(Drop)]
 pub(crate) struct WrittenBook {
     pub(crate) pages: u32,
-    pub(crate) told: Text,
+    pub(crate) reported: Text,
     pub(crate) status: Status,
 }
 
@@ -65,7 +65,7 @@ pub(crate) fn begin_book<O: Sink>(
     let writer = begin(alloc, &paper_frame(paper), output)?;
     Ok(BookProgress {
         press: new_builder(),
-        told: Text::new(alloc),
+        reported: Text::new(alloc),
         refused: false,
         writer,
     })
@@ -106,7 +106,7 @@ pub(crate) fn place_outcomes(
         → WillRun plan.now paper.now before outcomes placed run.new) }
     ensures uncounted { OnOk result (run.new.writer.pages ≡ 0) }
 {
-    put_reports(&mut run.told, outcomes.as_slice())?;
+    put_reports(&mut run.reported, outcomes.as_slice())?;
     run.refused = run.refused || has_fault(outcomes.as_slice());
     let placed = add_outcomes(alloc, paper, plan, outcomes, &mut run.press)?;
     Ok(placed)
@@ -145,7 +145,7 @@ pub(crate) fn finish_book<O: Sink>(
     finish(alloc, writer, output)?;
     Ok(WrittenBook {
         pages: run.press.begun,
-        told: run.told,
+        reported: run.reported,
         status: status_if(run.refused),
     })
 }

@@ -31,7 +31,7 @@ fn print<O: Sink, E: Sink>(
     errors: &mut E,
 ) -> Status
     ensures { IsAnswered
-        (λ called. called ≡ record { page = heard_text spread sheet.now; told = []; status = Status.Done }) result
+        (λ called. called ≡ record { page = heard_text spread sheet.now; reported = []; status = Status.Done }) result
         (observed O.taken O.faults output.old output.new) (observed E.taken E.faults errors.old errors.new) }
 {
     let Ok(text) = text_of(alloc, spread, sheet) else {

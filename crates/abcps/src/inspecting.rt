@@ -16,7 +16,8 @@ use std::alloc::Global;
 
 /// Prints what a sheet shows.
 fn print<O: Sink, E: Sink>(alloc: Global, sheet: &Sheet, output: &mut O, errors: &mut E) -> Status
-    ensures { IsAnswered (λ called. called ≡ record { page = sheet_report sheet.now; told = []; status = Status.Done })
+    ensures { IsAnswered
+        (λ called. called ≡ record { page = sheet_report sheet.now; reported = []; status = Status.Done })
         result (observed O.taken O.faults output.old output.new) (observed E.taken E.faults errors.old errors.new) }
 {
     let Ok(report) = report_of(alloc, sheet) else {

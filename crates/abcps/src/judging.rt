@@ -59,7 +59,8 @@ fn print<O: Sink, E: Sink>(
     errors: &mut E,
 ) -> Status
     ensures { IsAnswered
-        (λ called. called ≡ record { page = verdicts_text judged.now; told = []; status = status_by judged.now }) result
+        (λ called. called ≡ record { page = verdicts_text judged.now; reported = []; status = status_by judged.now })
+        result
         (observed O.taken O.faults output.old output.new) (observed E.taken E.faults errors.old errors.new) }
 {
     let Ok(text) = verdicts_text(alloc, judged) else {

@@ -41,7 +41,8 @@ fn print<O: Sink, E: Sink>(
     output: &mut O,
     errors: &mut E,
 ) -> Status
-    ensures { IsAnswered (λ called. called ≡ record { page = paint_text pages.now; told = []; status = Status.Done })
+    ensures { IsAnswered
+        (λ called. called ≡ record { page = paint_text pages.now; reported = []; status = Status.Done })
         result (observed O.taken O.faults output.old output.new) (observed E.taken E.faults errors.old errors.new) }
 {
     let Ok(text) = text_of(alloc, pages) else {

@@ -27,12 +27,12 @@ pub(crate) fn report_usage<E: Sink>(errors: &mut E)
 }
 
 /// Writes the last text of a run to errors. Returns the status of the run unless errors fails.
-pub(crate) fn report_last<E: Sink>(errors: &mut E, told: &[u8], with: Status) -> Status
-    ensures { ((result ≡ with) × WroteWhole (observed E.taken E.faults errors.old errors.new) told.now)
+pub(crate) fn report_last<E: Sink>(errors: &mut E, reported: &[u8], with: Status) -> Status
+    ensures { ((result ≡ with) × WroteWhole (observed E.taken E.faults errors.old errors.new) reported.now)
         ⊎ ((result ≡ Status.WriteFault)
-        × FailedAfterPrefix (observed E.taken E.faults errors.old errors.new) told.now) }
+        × FailedAfterPrefix (observed E.taken E.faults errors.old errors.new) reported.now) }
 {
-    match write_all(errors, told) {
+    match write_all(errors, reported) {
         Ok(()) => with,
         Err(_) => Status::WriteFault,
     }
@@ -44,15 +44,15 @@ pub(crate) fn write_both<O: Sink, E: Sink>(
     output: &mut O,
     errors: &mut E,
     page: &[u8],
-    told: &[u8],
+    reported: &[u8],
     with: Status,
 ) -> Status
     requires { IsCompleteStatus with }
-    ensures { IsAnswered (λ called. called ≡ record { page = page.now; told = told.now; status = with }) result
+    ensures { IsAnswered (λ called. called ≡ record { page = page.now; reported = reported.now; status = with }) result
         (observed O.taken O.faults output.old output.new) (observed E.taken E.faults errors.old errors.new) }
 {
     match write_all(output, page) {
-        Ok(()) => report_last(errors, told, with),
+        Ok(()) => report_last(errors, reported, with),
         Err(_) => Status::WriteFault,
     }
 }

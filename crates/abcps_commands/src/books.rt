@@ -27,7 +27,7 @@ fn ran_on<R: Host>(rt: &R, words: &str, book: &[u8]) -> io::Result<Finished> {
 }
 
 /// Returns the part of a document after its prolog.
-fn behind_prolog(document: &[u8]) -> &[u8] {
+fn past_prolog(document: &[u8]) -> &[u8] {
     for (place, part) in document.windows(END_OF_PROLOG.len()).enumerate() {
         if part == END_OF_PROLOG {
             let (_, rest) = document.split_at(place);
@@ -59,7 +59,7 @@ fn have_status(set: &Finished, systems: &Finished) -> bool {
 fn writes_what_is_told<R: Host>(rt: &R, book: &[u8], told: &[u8]) -> io::Result<bool> {
     let set = ran_on(rt, "set", book)?;
     let systems = ran_on(rt, "systems --table", book)?;
-    let pages = behind_prolog(set.output.taken());
+    let pages = past_prolog(set.output.taken());
     let table = systems.output.taken();
     Ok(
         have_status(&set, &systems)

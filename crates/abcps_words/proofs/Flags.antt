@@ -18,7 +18,7 @@ use Rattle.abcps_words.specs.Words.{half_steps_of, first_said, said}
 use Rattle.abcps_words.specs.declared.options.Flag.{Flag}
 use Rattle.abcps_words.specs.declared.options.Options.{Options}
 use Rattle.abcps_words.specs.Adding.{has_kind, with_flag, with_option}
-use Rattle.abcps_words.proofs.Fronts.{head_of, tail_of, clash}
+use Rattle.abcps_words.proofs.Prefixes.{head_of, tail_of, clash}
 
 one_number : (n m : ℕ) → IsUpTo 64 n → IsUpTo 64 m → decimal n ≡ decimal m → n ≡ m
 one_number n m a b e = decimal_injective n m (omega (arith, a)) (omega (arith, b)) e
@@ -107,10 +107,10 @@ half_steps_any z [] = refl
 half_steps_any z (Flag.Transpose y ∷ xs) = refl
 half_steps_any z (f ∷ xs) = half_steps_any z xs
 
-first_behind : {A : Type 0} (p : Flag → Option A) (xs ys : List Flag)
+first_after : {A : Type 0} (p : Flag → Option A) (xs ys : List Flag)
     → is_some (first_said p xs) ≡ false → first_said p (xs ++ ys) ≡ first_said p ys
-first_behind p [] ys e = refl
-first_behind {A} p (x ∷ xs) ys e = by_first (first_behind p xs ys) (p x) e
+first_after p [] ys e = refl
+first_after {A} p (x ∷ xs) ys e = by_first (first_after p xs ys) (p x) e
   where
     by_first : (is_some (first_said p xs) ≡ false → first_said p (xs ++ ys) ≡ first_said p ys)
         → (o : Option A) → is_some (option_or o (first_said p xs)) ≡ false
@@ -196,7 +196,7 @@ said_more seen (Flag.Jobs n) none =
       any_kept (same_kind Flag.Flow) seen f refl,
       any_kept (same_kind Flag.Table) seen f refl,
       any_kept (same_kind Flag.Even) seen f refl,
-      first_behind jobs_of seen (f ∷ []) none,
+      first_after jobs_of seen (f ∷ []) none,
       first_kept half_steps_of seen f refl,
     ) refl
 said_more seen (Flag.Transpose z) none =
@@ -206,7 +206,7 @@ said_more seen (Flag.Transpose z) none =
       any_kept (same_kind Flag.Table) seen f refl,
       any_kept (same_kind Flag.Even) seen f refl,
       first_kept jobs_of seen f refl,
-      first_behind half_steps_of seen (f ∷ []) none,
+      first_after half_steps_of seen (f ∷ []) none,
     ) refl
 
 -- one more option that may be given
@@ -250,9 +250,10 @@ twice seen more f e once = by_kind (has_kind (said seen) f) refl e
         omega (arith, once f)
     by_kind false is e = cc
 
-pub one_more : (words rest behind : List (List ℕ)) (o p : Options) (f : Flag)
-    → IsRead words rest o → IsFlag f → rest ≡ flag_words f ++ behind → with_option o f ≡ Some p → IsRead words behind p
-one_more words rest behind o p f read good e adds =
+pub one_more : (words rest following : List (List ℕ)) (o p : Options) (f : Flag)
+    → IsRead words rest o → IsFlag f → rest ≡ flag_words f ++ following → with_option o f ≡ Some p
+    → IsRead words following p
+one_more words rest following o p f read good e adds =
     let fit = adds_one read.seen read.once f p (subst (λ o. with_option o f ≡ Some p) read.says adds) in
     record {
       seen = read.seen ++ f ∷ [];
@@ -263,12 +264,12 @@ one_more words rest behind o p f read good e adds =
     }
   where
     put_in : (seen : List Flag)
-        → flat_map flag_words seen ++ (flag_words f ++ behind) ≡ flat_map flag_words (seen ++ f ∷ []) ++ behind
+        → flat_map flag_words seen ++ (flag_words f ++ following) ≡ flat_map flag_words (seen ++ f ∷ []) ++ following
     put_in seen =
         rw (
           flat_map-append flag_words seen (f ∷ []),
           append-nil (flag_words f),
-          append_assoc (flat_map flag_words seen) (flag_words f) behind,
+          append_assoc (flat_map flag_words seen) (flag_words f) following,
         ) refl
 
 -- what the words that are left must be
@@ -279,7 +280,7 @@ left words rest o read flags is =
     what_follows read.seen flags rest read.in_range is.in_range (sym read.spelled ∙ is.spelled)
 
 pub unreadable : (words rest : List (List ℕ)) (o : Options) → IsRead words rest o → 0 < length rest
-    → ((f : Flag) (behind : List (List ℕ)) → IsFlag f → rest ≡ flag_words f ++ behind → ⊥)
+    → ((f : Flag) (following : List (List ℕ)) → IsFlag f → rest ≡ flag_words f ++ following → ⊥)
     → (flags : List Flag) → IsSpelled flags words
     → ⊥
 unreadable words rest o read some none flags is = (let l = left words rest o read flags is in by_more l.0 l.2 l.3)
@@ -288,17 +289,17 @@ unreadable words rest o read some none flags is = (let l = left words rest o rea
     by_more [] e good = (let l = ap length e in omega arith)
     by_more (f ∷ more) e good = none f (flat_map flag_words more) (All-head IsFlag f more good) e
 
-pub repeated : (words rest behind : List (List ℕ)) (o : Options) (f : Flag)
-    → IsRead words rest o → IsFlag f → rest ≡ flag_words f ++ behind → with_option o f ≡ None → (flags : List Flag)
+pub repeated : (words rest following : List (List ℕ)) (o : Options) (f : Flag)
+    → IsRead words rest o → IsFlag f → rest ≡ flag_words f ++ following → with_option o f ≡ None → (flags : List Flag)
     → IsSpelled flags words
     → ⊥
-repeated words rest behind o f read fine e adds flags is =
+repeated words rest following o f read fine e adds flags is =
     (let l = left words rest o read flags is in by_more l.0 l.1 l.2 l.3)
   where
     by_more : (more : List Flag) → flags ≡ read.seen ++ more → rest ≡ flat_map flag_words more → All IsFlag more → ⊥
-    by_more [] a b good = some_words f behind (sym e ∙ b)
+    by_more [] a b good = some_words f following (sym e ∙ b)
     by_more (g ∷ more) a b good =
-        let same = one_flag f g behind (flat_map flag_words more) fine (All-head IsFlag g more good) (sym e ∙ b) in
+        let same = one_flag f g following (flat_map flag_words more) fine (All-head IsFlag g more good) (sym e ∙ b) in
         let stand : flags ≡ read.seen ++ f ∷ more = a ∙ ap (λ h. read.seen ++ h ∷ more) (sym same.0) in
         twice read.seen more f (subst (λ o. with_option o f ≡ None) read.says adds) (subst IsOnce stand is.once)
 

@@ -1,3 +1,3 @@
-mod Fronts
+mod Prefixes
 mod Flags
 mod Alone

@@ -2,16 +2,16 @@
 use Rattle.std.specs.Prelude.{◌≡◌, ⊤, ℕ, List, ◌++◌}
 use Rattle.abcps_words.specs.declared.options.Flag.{Flag}
 use Rattle.abcps_words.specs.declared.command.Command.{Command}
-use Rattle.abcps_words.specs.Words.{IsUpTo, IsMove, front_of, HasTunes, IsSpelled, said, SaysCommand}
+use Rattle.abcps_words.specs.Words.{IsUpTo, IsMove, prefix_of, HasTunes, IsSpelled, said, SaysCommand}
 
 -- The words ask for this command: they are its leading words and options that it takes, in any order, each at most
 -- once.
 pub record Asks (words : List (List ℕ)) (c : Command) : Type 0 where
   pub options : List Flag
-  pub behind : List (List ℕ)
-  pub whole : words ≡ front_of c ++ behind
+  pub following : List (List ℕ)
+  pub whole : words ≡ prefix_of c ++ following
   pub tunes : HasTunes c
-  pub spelled : IsSpelled options behind
+  pub spelled : IsSpelled options following
   pub says : SaysCommand (said options) c
 
 -- the words ask for a command

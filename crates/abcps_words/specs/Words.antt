@@ -39,15 +39,15 @@ spread_word Spread.Octave = codes "octave"
 spread_word Spread.Pitch = codes "pitch"
 
 -- the words before the options: the name, directly followed by the number of tunes or the spread
-abbrev pub front_of : Command → List (List ℕ)
-front_of (Command.Set flow jobs by even) = name_bytes Name.Set ∷ []
-front_of (Command.Systems flow table by) = name_bytes Name.Systems ∷ []
-front_of Command.Inspect = name_bytes Name.Inspect ∷ []
-front_of Command.Check = name_bytes Name.Check ∷ []
-front_of (Command.Make tunes) = name_bytes Name.Make ∷ decimal tunes ∷ []
-front_of (Command.Trial tunes flow jobs even) = name_bytes Name.Trial ∷ decimal tunes ∷ []
-front_of Command.Paint = name_bytes Name.Paint ∷ []
-front_of (Command.Hear spread) = name_bytes Name.Hear ∷ spread_word spread ∷ []
+abbrev pub prefix_of : Command → List (List ℕ)
+prefix_of (Command.Set flow jobs by even) = name_bytes Name.Set ∷ []
+prefix_of (Command.Systems flow table by) = name_bytes Name.Systems ∷ []
+prefix_of Command.Inspect = name_bytes Name.Inspect ∷ []
+prefix_of Command.Check = name_bytes Name.Check ∷ []
+prefix_of (Command.Make tunes) = name_bytes Name.Make ∷ decimal tunes ∷ []
+prefix_of (Command.Trial tunes flow jobs even) = name_bytes Name.Trial ∷ decimal tunes ∷ []
+prefix_of Command.Paint = name_bytes Name.Paint ∷ []
+prefix_of (Command.Hear spread) = name_bytes Name.Hear ∷ spread_word spread ∷ []
 
 -- a number of tunes is 1 to 500
 abbrev pub HasTunes : Command → Type 0

@@ -1,5 +1,5 @@
 ghost use Rattle.std.specs.Prelude.{◌≡◌, ◌++◌, ◌∷◌, ℕ, List, IfSome, IfNone, MatchOption, map, string_bytes};
-ghost use Rattle.abcps_words.specs.Words.{name_bytes, spread_word, front_of, HasTunes, SaysCommand};
+ghost use Rattle.abcps_words.specs.Words.{name_bytes, spread_word, prefix_of, HasTunes, SaysCommand};
 ghost use Rattle.abcps_words.specs.Command.{Asks, IsListed, IsGoodCommand, limit_of, AsksOne, AskedIsGood};
 ghost use Rattle.abcps_words.specs.Usage.{usage_line};
 
@@ -97,8 +97,8 @@ impl Command {
     fn with_options(self, options: Options) -> Option<Command>
         requires { HasTunes self }
         ensures { MatchOption result
-            ((c : Command) → front_of c ≡ front_of self → SaysCommand options c → ⊥)
-            (λ c. (front_of c ≡ front_of self) × HasTunes c × SaysCommand options c) }
+            ((c : Command) → prefix_of c ≡ prefix_of self → SaysCommand options c → ⊥)
+            (λ c. (prefix_of c ≡ prefix_of self) × HasTunes c × SaysCommand options c) }
     {
         match self {
             Command::Set { .. } if !options.table => Some(Command::Set {
@@ -185,10 +185,10 @@ fn take_spread(words: &[String]) -> Option<(Spread, &[String])>
 }
 
 /// Returns the command that the first words name, without options, and the words after them.
-fn take_front(words: &[String]) -> Option<(Command, &[String])>
+fn take_prefix(words: &[String]) -> Option<(Command, &[String])>
     ensures { MatchOption result
-        ((c : Command) (rest : List (List ℕ)) → HasTunes c → map string_bytes words.now ≡ front_of c ++ rest → ⊥)
-        (λ z. HasTunes z.0 × (map string_bytes words.now ≡ front_of z.0 ++ map string_bytes z.1.now)) }
+        ((c : Command) (rest : List (List ℕ)) → HasTunes c → map string_bytes words.now ≡ prefix_of c ++ rest → ⊥)
+        (λ z. HasTunes z.0 × (map string_bytes words.now ≡ prefix_of z.0 ++ map string_bytes z.1.now)) }
 {
     let (word, rest) = words.split_first()?;
     match name_of(word.as_bytes())? {
@@ -241,7 +241,7 @@ pub fn command_of(words: &[String]) -> Option<Command>
     ensures ranges { IfSome result IsGoodCommand }
     ensures none { IfNone result (IsListed (map string_bytes words.now) → ⊥) }
 {
-    let (command, rest) = take_front(words)?;
+    let (command, rest) = take_prefix(words)?;
     command.with_options(options_of(rest)?)
 }
 

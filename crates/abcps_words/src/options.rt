@@ -118,9 +118,9 @@ pub fn options_of(words: &[String]) -> Option<Options>
     let mut options = Options::none();
     let mut rest = words;
     while !rest.is_empty() {
-        let (flag, behind) = take_flag(rest)?;
+        let (flag, following) = take_flag(rest)?;
         options = options.with(flag)?;
-        rest = behind;
+        rest = following;
     }
     Some(options)
 }

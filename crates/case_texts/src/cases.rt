@@ -46,8 +46,8 @@ pub fn cut<'a>(text: &'a str, mark: &str) -> (&'a str, &'a str) {
 pub fn within_limit(bytes: &[u8]) -> &[u8]
     ensures { length result.now ≤ 1000000 }
 {
-    let (front, _) = bytes.split_at(bytes.len().min(1_000_000));
-    front
+    let (prefix, _) = bytes.split_at(bytes.len().min(1_000_000));
+    prefix
 }
 
 /// Returns the report lines of a case: its own line, and its value in visible ASCII, each line of which begins with

@@ -95,8 +95,8 @@ pub fn number_and_rest(bytes: &[u8]) -> Option<(u32, &[u8])>
     ensures { MatchOption result ((n : ℕ) (rest : List ℕ) → n < 2 ^ 32 → bytes.now ≡ decimal n ++ 32 ∷ rest → ⊥)
         (λ z. (bytes.now ≡ decimal z.0 ++ 32 ∷ z.1.now) × (z.0 < 2 ^ 32)) }
 {
-    let (front, rest) = cut_at(b' ', bytes)?;
-    Some((small_number(front)?, rest))
+    let (start, rest) = cut_at(b' ', bytes)?;
+    Some((small_number(start)?, rest))
 }
 
 /// Returns the two numbers below 2^32 after the prefix, with a space between them. `None` exactly when the bytes are

@@ -2,10 +2,10 @@
 use Rattle.std.proofs.Common.{◌≡◌, refl, ℕ, zero, suc, ◌+◌, ◌*◌, ◌≤◌, length, arith}
 use Rattle.std.proofs.lemmas.Fmt.{length-decimal-le}
 use Rattle.std.proofs.lemmas.List.{length-append}
-use Rattle.gen_book.specs.Book.{half_behind, heading_of_tune, line_behind, measure_behind, tune, tunes, book}
+use Rattle.gen_book.specs.Book.{half_after, heading_of_tune, line_after, measure_after, tune, tunes, book}
 
-line_length : (s : ℕ) → length (line_behind s) ≡ 41
-unfolding line_behind measure_behind half_behind
+line_length : (s : ℕ) → length (line_after s) ≡ 41
+unfolding line_after measure_after half_after
 line_length s = refl
 
 tune_short : (i : ℕ) → i ≤ 500 → length (tune i) ≤ 700

@@ -16,28 +16,28 @@ number_after_steps zero s = s
 number_after_steps (suc k) s = next_number (number_after_steps k s)
 
 -- the four letters after a number
-unfoldable pub half_behind : ℕ → List ℕ
-half_behind s =
+unfoldable pub half_after : ℕ → List ℕ
+half_after s =
     letter_of_note (number_after_steps 1 s) ∷ letter_of_note (number_after_steps 2 s)
     ∷ letter_of_note (number_after_steps 3 s) ∷ letter_of_note (number_after_steps 4 s) ∷ []
 
 -- a measure: four letters, a space, four letters, a bar
-unfoldable pub measure_behind : ℕ → List ℕ
-measure_behind s = half_behind s ++ 32 ∷ half_behind (number_after_steps 4 s) ++ 124 ∷ []
+unfoldable pub measure_after : ℕ → List ℕ
+measure_after s = half_after s ++ 32 ∷ half_after (number_after_steps 4 s) ++ 124 ∷ []
 
 -- this many measures, with nothing between
-abbrev pub measures_behind : ℕ → ℕ → List ℕ
-measures_behind zero s = []
-measures_behind (suc k) s = measure_behind s ++ measures_behind k (number_after_steps 8 s)
+abbrev pub measures_after : ℕ → ℕ → List ℕ
+measures_after zero s = []
+measures_after (suc k) s = measure_after s ++ measures_after k (number_after_steps 8 s)
 
 -- a line of four measures
-unfoldable pub line_behind : ℕ → List ℕ
-line_behind s = measures_behind 4 s ++ 10 ∷ []
+unfoldable pub line_after : ℕ → List ℕ
+line_after s = measures_after 4 s ++ 10 ∷ []
 
 -- this many lines
-abbrev pub lines_behind : ℕ → ℕ → List ℕ
-lines_behind zero s = []
-lines_behind (suc k) s = line_behind s ++ lines_behind k (number_after_steps 32 s)
+abbrev pub lines_after : ℕ → ℕ → List ℕ
+lines_after zero s = []
+lines_after (suc k) s = line_after s ++ lines_after k (number_after_steps 32 s)
 
 -- the key of a tune by its number: C, G, D, F in turn
 unfoldable pub key_of_tune : ℕ → ℕ
@@ -50,7 +50,7 @@ heading_of_tune i =
 
 -- a tune, and the empty line after it
 unfoldable pub tune : ℕ → List ℕ
-tune i = heading_of_tune i ++ lines_behind 16 i ++ 10 ∷ []
+tune i = heading_of_tune i ++ lines_after 16 i ++ 10 ∷ []
 
 -- this many tunes, the first with the number i
 abbrev pub tunes : ℕ → ℕ → List ℕ

@@ -1,6 +1,6 @@
 ghost use Rattle.std.specs.Prelude.{◌≡◌, ◌≤◌, ◌<◌, ◌^◌, ◌++◌, ◌∷◌, [], OnOk, IfOk, decimal, length};
-ghost use Rattle.gen_book.specs.Book.{next_number, letter_of_note, number_after_steps, half_behind, measure_behind};
-ghost use Rattle.gen_book.specs.Book.{measures_behind, line_behind, lines_behind, key_of_tune, heading_of_tune, tune};
+ghost use Rattle.gen_book.specs.Book.{next_number, letter_of_note, number_after_steps, half_after, measure_after};
+ghost use Rattle.gen_book.specs.Book.{measures_after, line_after, lines_after, key_of_tune, heading_of_tune, tune};
 ghost use Rattle.gen_book.specs.Book.{tunes, book};
 
 use eng_lines::put_number;
@@ -42,10 +42,10 @@ fn put_letter(out: &mut Text, s: u64) -> Result<u64, Memory>
 }
 
 /// Adds four letters.
-#[tactic(auto, unfolding(crate::specs::Book::half_behind))]
+#[tactic(auto, unfolding(crate::specs::Book::half_after))]
 fn put_half(out: &mut Text, s: u64) -> Result<u64, Memory>
     requires { s < 2 ^ 31 }
-    ensures text { OnOk result (out.new ≡ out.old ++ half_behind s) }
+    ensures text { OnOk result (out.new ≡ out.old ++ half_after s) }
     ensures value { IfOk result (λ t. t ≡ number_after_steps 4 s) }
     ensures small { IfOk result (λ t. t < 2 ^ 31) }
 {
@@ -56,10 +56,10 @@ fn put_half(out: &mut Text, s: u64) -> Result<u64, Memory>
 }
 
 /// Adds a measure.
-#[tactic(auto, unfolding(crate::specs::Book::measure_behind))]
+#[tactic(auto, unfolding(crate::specs::Book::measure_after))]
 fn put_measure(out: &mut Text, s: u64) -> Result<u64, Memory>
     requires { s < 2 ^ 31 }
-    ensures text { OnOk result (out.new ≡ out.old ++ measure_behind s) }
+    ensures text { OnOk result (out.new ≡ out.old ++ measure_after s) }
     ensures value { IfOk result (λ t. t ≡ number_after_steps 8 s) }
     ensures small { IfOk result (λ t. t < 2 ^ 31) }
 {
@@ -71,10 +71,10 @@ fn put_measure(out: &mut Text, s: u64) -> Result<u64, Memory>
 }
 
 /// Adds a line of four measures.
-#[tactic(auto, unfolding(crate::specs::Book::line_behind))]
+#[tactic(auto, unfolding(crate::specs::Book::line_after))]
 fn put_line(out: &mut Text, s: u64) -> Result<u64, Memory>
     requires { s < 2 ^ 31 }
-    ensures text { OnOk result (out.new ≡ out.old ++ line_behind s) }
+    ensures text { OnOk result (out.new ≡ out.old ++ line_after s) }
     ensures value { IfOk result (λ t. t ≡ number_after_steps 32 s) }
     ensures small { IfOk result (λ t. t < 2 ^ 31) }
 {
@@ -89,7 +89,7 @@ fn put_line(out: &mut Text, s: u64) -> Result<u64, Memory>
 /// Adds the sixteen lines of a tune.
 fn put_lines(out: &mut Text, i: u32) -> Result<(), Memory>
     requires { i ≤ 500 }
-    ensures { OnOk result (out.new ≡ out.old ++ lines_behind 16 i) }
+    ensures { OnOk result (out.new ≡ out.old ++ lines_after 16 i) }
 {
     let mut s = u64::from(i);
     for k in 0_usize..16 {

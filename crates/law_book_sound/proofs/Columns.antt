@@ -27,7 +27,7 @@ use Rattle.ps_heard.specs.Roles.{role_of}
 use Rattle.ps_heard.proofs.Places.{rising_is}
 use Rattle.set_staves.proofs.Rising.{any_at, ranked_at, rises}
 use Rattle.set_staves.proofs.Shown.{x_read}
-use Rattle.law_staff_columns.specs.Ranked.{columns_behind, noted_at, notes_at, rank_column, ranked_columns, tied_at}
+use Rattle.law_staff_columns.specs.Ranked.{columns_after, noted_at, notes_at, rank_column, ranked_columns, tied_at}
 use Rattle.law_staff_columns.specs.Ranked.{tie_ends_at}
 use Rattle.set_staves.specs.Marks.{HasColumns, RisesAlong, called_mark, called_marks, x_at}
 use Rattle.law_book_sound.proofs.Telling.{column_alike}
@@ -120,7 +120,7 @@ module _ (at all : List ℤ) (rise : RisesAlong at) (set : All (Contains at) all
 
   columns_along : (ms : List PageMark) (s : StaffMarks) → all_ranked all ms ≡ Some (called_marks s)
       → (n r : ℕ) (leads : Bool) → leads ≡ (r == 0) → r + n ≡ length at
-      → heard_columns_from leads ms (drop r at) ≡ columns_behind s.marks r n
+      → heard_columns_from leads ms (drop r at) ≡ columns_after s.marks r n
   columns_along ms s e zero r leads first h = ap (heard_columns_from leads ms) (drop_of_length-le at (omega arith))
   columns_along ms s e (suc n) r leads first h =
       let here = column_alike all (x_at at r) (pos r) (apart r (omega arith)) leads ms (called_marks s) e in

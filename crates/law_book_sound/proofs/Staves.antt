@@ -30,7 +30,7 @@ use Rattle.ps_text.specs.declared.sheet.Staff.{Staff}
 use Rattle.ps_text.specs.Ranks.{anchors, ranks}
 use Rattle.set_staves.specs.Marks.{ShowsIn, called_marks}
 use Rattle.law_staff_columns.specs.Ranked.{ranked_columns}
-use Rattle.law_staff_columns.specs.Told.{first_at}
+use Rattle.law_staff_columns.specs.Reported.{first_at}
 use Rattle.ps_heard.specs.Hearing.{heard_of}
 use Rattle.ps_heard.specs.Tunes.{columns_if, most_staves, heard_staff_columns, staff_heard, staves_heard}
 use Rattle.law_voice_sound.specs.Clear.{IsClearScore, IsClearVoice}
@@ -38,8 +38,8 @@ use Rattle.law_voice_sound.specs.Columns.{last_through, standing_through, heard_
 use Rattle.law_voice_sound.specs.Listened.{columns_heard}
 use Rattle.law_voice_sound.specs.Sounds.{voice_heard}
 use Rattle.law_voice_sound.proofs.ClearVoices.{clear_voice}
-use Rattle.law_voice_sound.proofs.Listening.{heard_told, told_join}
-use Rattle.law_staff_columns.proofs.Telling.{staff_told}
+use Rattle.law_voice_sound.proofs.Listening.{heard_known, known_join}
+use Rattle.law_staff_columns.proofs.Telling.{staff_known}
 use Rattle.law_marks_apart.proofs.Laws.{columns_stand}
 use Rattle.set_pages.proofs.Blocking.{columns_rise}
 use Rattle.law_book_sound.{specs.Sounds.AreAlone, proofs.{Columns.columns_ranked, Tunes.{AreRead, AreReadAt}}}
@@ -95,12 +95,12 @@ unfolding drawn_voice
 alone_staves [] alone = refl
 alone_staves (v ∷ []) alone = refl
 alone_staves (v ∷ w ∷ voices) alone =
-    let behind = All-tail (λ (v : Voice). v.seat ≡ Seat.Alone) v (w ∷ voices) alone in
-    ap (put_before is_drawn_lower (drawn_voice v)) (alone_staves (w ∷ voices) behind)
+    let following = All-tail (λ (v : Voice). v.seat ≡ Seat.Alone) v (w ∷ voices) alone in
+    ap (put_before is_drawn_lower (drawn_voice v)) (alone_staves (w ∷ voices) following)
     ∙ ap (λ seat.
     cond (is_lower seat) ((drawn_voice v ∷ drawn_voice w ∷ []) ∷ each_alone voices)
     ((drawn_voice v ∷ []) ∷ each_alone (w ∷ voices)))
-    (All-head (λ (v : Voice). v.seat ≡ Seat.Alone) w voices behind)
+    (All-head (λ (v : Voice). v.seat ≡ Seat.Alone) w voices following)
 
 module _ (system : List Staff) (marks : List DrawnVoice → StaffMarks) where
   staff_of : (staves : List Staff) (voices : List Voice) (k : ℕ) (v : Voice)
@@ -152,11 +152,11 @@ module _ (s : Score) (width : ℕ) (good : IsGoodScore s) (alone : AreAlone s) w
     of_voice : (P : Voice → Type 0) → All P s.voices → P v
     of_voice P all = All-contains P s.voices v all is_voice
 
-    system_told : (a b : ℕ) (staves : List Staff)
+    system_known : (a b : ℕ) (staves : List Staff)
         → AreReadAt s width a b staves
         → columns_heard (heard_staff_columns k staves)
         ≡ columns_heard (heard_system (first_at a v.first) (now_at v a) (last_at v a) (slice_range v.measures a b))
-    system_told a b staves read =
+    system_known a b staves read =
         let at = read.placed.at in
         let keys = read.marks.keys in
         let stand = columns_stand s width a b read.marks read.placed read.set in
@@ -166,14 +166,14 @@ module _ (s : Score) (width : ℕ) (good : IsGoodScore s) (alone : AreAlone s) w
         ∙ ap columns_heard
         (columns_ranked staves staff.0 marks at staff.2 read.columns (columns_rise width (length keys) at stand))
         ∙ ap (λ n. columns_heard (ranked_columns n marks.marks)) stand.count_is
-        ∙ staff_told s v keys at a b good is_voice (of_voice (λ v. v.seat ≡ Seat.Alone) alone) read.order read.within
+        ∙ staff_known s v keys at a b good is_voice (of_voice (λ v. v.seat ≡ Seat.Alone) alone) read.order read.within
         read.set.tilted.keys
 
-    systems_told : (a : ℕ) (breaks : List ℕ) (systems : List (List Staff)) → AreRead s width a breaks systems
+    systems_known : (a : ℕ) (breaks : List ℕ) (systems : List (List Staff)) → AreRead s width a breaks systems
         → columns_heard (flat_map (heard_staff_columns k) systems)
         ≡ columns_heard (systems_columns (first_at a v.first) (now_at v a) (last_at v a) (parted v.measures a breaks))
-    systems_told a [] [] read = refl
-    systems_told a (b ∷ breaks) (staves ∷ systems) read =
+    systems_known a [] [] read = refl
+    systems_known a (b ∷ breaks) (staves ∷ systems) read =
         let part = slice_range v.measures a b in
         let goes_on : systems_columns (first_at b v.first) (now_at v b) (last_at v b) (parted v.measures b breaks)
         ≡ systems_columns None (standing_through (now_at v a) part) (last_through (last_at v a) part)
@@ -183,13 +183,13 @@ module _ (s : Score) (width : ℕ) (good : IsGoodScore s) (alone : AreAlone s) w
         ∙ ap₂ (λ now prev. systems_columns None now prev (parted v.measures b breaks))
         (through_parts standing_through (λ now. refl) (λ now m ms. refl) (standing_of v) v.measures a b read.0.order)
         (through_parts last_through (λ prev. refl) (λ prev m ms. refl) [] v.measures a b read.0.order) in
-        told_join (heard_staff_columns k staves) (flat_map (heard_staff_columns k) systems)
-        ∙ ap₂ (λ xs ys. xs ++ ys) (system_told a b staves read.0)
-        (systems_told b breaks systems read.1 ∙ ap columns_heard goes_on)
-        ∙ sym (told_join (heard_system (first_at a v.first) (now_at v a) (last_at v a) part)
+        known_join (heard_staff_columns k staves) (flat_map (heard_staff_columns k) systems)
+        ∙ ap₂ (λ xs ys. xs ++ ys) (system_known a b staves read.0)
+        (systems_known b breaks systems read.1 ∙ ap columns_heard goes_on)
+        ∙ sym (known_join (heard_system (first_at a v.first) (now_at v a) (last_at v a) part)
         (systems_columns None (standing_through (now_at v a) part) (last_through (last_at v a) part)
         (parted v.measures b breaks)))
-    systems_told a _ _ read = absurd read
+    systems_known a _ _ read = absurd read
 
     staff_sounds : (breaks : List ℕ) (systems : List (List Staff))
         → RisesFrom 0 breaks → last_from 0 breaks ≡ s.measures → AreRead s width 0 breaks systems
@@ -198,9 +198,9 @@ module _ (s : Score) (width : ℕ) (good : IsGoodScore s) (alone : AreAlone s) w
         let part = parted v.measures 0 breaks in
         let whole = parted_whole v.measures 0 breaks rises
         (ends ∙ sym (of_voice (λ v. length v.measures ≡ s.measures) good.measures)) in
-        sym (heard_told s.spread (flat_map (heard_staff_columns k) systems))
-        ∙ ap (heard_of s.spread) (systems_told 0 breaks systems read)
-        ∙ heard_told s.spread (heard_voice v part)
+        sym (heard_known s.spread (flat_map (heard_staff_columns k) systems))
+        ∙ ap (heard_of s.spread) (systems_known 0 breaks systems read)
+        ∙ heard_known s.spread (heard_voice v part)
         ∙ clear_voice s.spread v part whole (of_voice IsGoodVoice good.voices) (of_voice IsClearVoice clear)
 
 -- ---- staff after staff

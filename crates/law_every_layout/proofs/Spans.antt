@@ -22,7 +22,7 @@ use Rattle.lay_spans.specs.Forced.{is_forced}
 use Rattle.lay_spans.specs.Rows.{IsRowFrom, rows_spans}
 use Rattle.lay_spans.specs.SpanList.{IsCost}
 use Rattle.lay_spans.proofs.Adding.{columns_some}
-use Rattle.lay_spans.proofs.Growing.{costs_more, free_more, rows_are_spans, rows_tell_spans, stops_at, stops_behind}
+use Rattle.lay_spans.proofs.Growing.{costs_more, free_more, rows_are_spans, rows_tell_spans, stops_at, stops_after}
 use Rattle.lay_tune.specs.Spans.{AreSpansOf, CanStandIn, IsForceOf, column_length, score_gaps, verses_of}
 use Rattle.lay_tune.proofs.Open.{spans_read}
 use Rattle.law_every_layout.proofs.Columns.{has_each, have_measures}
@@ -91,7 +91,7 @@ module _ (gaps : List ℕ) (width : ℕ) (narrow : All (λ g. g ≤ 2 ^ 20) gaps
               (elim (forced (m + 1)) as (λ t. forced (m + 1) ≡ t → (row : List ℕ) × IsRow row) [
                 | true ↦ λ is. (
                   next,
-                  stops_behind column_reach column_length gaps width starts others forced a m next (omega (arith, left))
+                  stops_after column_reach column_length gaps width starts others forced a m next (omega (arith, left))
                       longer (omega (arith, count)) more is,
                 )
                 | false ↦ λ is. row_on d (m + 1) next (omega (arith, left)) longer more (free_more forced a m is free)

@@ -18,8 +18,8 @@ use Rattle.abc_pieces.specs.declared.token.WrittenChord.{WrittenChord}
 use Rattle.abc_music.specs.declared.token.Placed.{Placed}
 use Rattle.abc_music.specs.Good.{AreGoodHeads, AreGoodTokens, IsGoodLen, IsGoodToken}
 use Rattle.abc_music.specs.Tokens.{fault_at}
-use Rattle.abc_music.proofs.Fronts.{has_front}
-use Rattle.abc_music.proofs.GoodLaws.{good_front}
+use Rattle.abc_music.proofs.Prefixes.{has_prefix}
+use Rattle.abc_music.proofs.GoodLaws.{good_prefix}
 use Rattle.abc_field.specs.declared.directive.Breaks.{Breaks}
 use Rattle.abc_field.specs.declared.field.Field.{Field}
 use Rattle.abc_field.specs.Fields.{field_of, named_field}
@@ -110,13 +110,13 @@ line_by : (sets : Breaks) (line : Line) (kind : LineKind)
     → (given : List ItemOrFault) × KindGives sets line kind given × AreGood given
 line_by sets line LineKind.Music =
     let n = length line.text in
-    let front = has_front sets.bang n PieceBefore.Other 0 line.text in
-    let fault = option_map (fault_at line) front.1 in
-    let tokens = flat_map (placed_given sets line) front.0 in
-    let good =
-    tokens_good sets line front.0 (good_front sets.bang n PieceBefore.Other 0 line.text front.0 front.1 front.2) in (
+    let prefix = has_prefix sets.bang n PieceBefore.Other 0 line.text in
+    let fault = option_map (fault_at line) prefix.1 in
+    let tokens = flat_map (placed_given sets line) prefix.0 in
+    let prefix_good = good_prefix sets.bang n PieceBefore.Other 0 line.text prefix.0 prefix.1 prefix.2 in
+    let good = tokens_good sets line prefix.0 prefix_good in (
       tokens ++ item_of_line_end sets line fault,
-      (front.0, fault, (front.1, front.2, refl), refl),
+      (prefix.0, fault, (prefix.1, prefix.2, refl), refl),
       both_good tokens (item_of_line_end sets line fault) good (end_good sets line fault),
     )
 line_by sets line _ = (

@@ -38,9 +38,9 @@ place_first v verses count lane e l =
           ∙ ap (λ n. slice_index (staff_gaps n) lane) e;
     }
 
-place_behind : (v : ℕ) (verses : List ℕ) (s count lane : ℕ)
+place_after : (v : ℕ) (verses : List ℕ) (s count lane : ℕ)
     → IsPlaceOf verses s count lane → IsPlaceOf (v ∷ verses) (suc s) count lane
-place_behind v verses s count lane h =
+place_after v verses s count lane h =
     let both = length-append (staff_gaps v) (gaps_of verses) in let long = gaps_long v in let inside = h.inside in
     let place : lane_count v + lane_start verses s + lane ≡ length (staff_gaps v) + (lane_start verses s + lane) =
     omega (arith, long) in
@@ -56,7 +56,7 @@ pub place_of_lane : (verses : List ℕ) (s count lane : ℕ)
 place_of_lane [] s count lane e l = absurd (none-some count e)
 place_of_lane (v ∷ verses) zero count lane e l = place_first v verses count lane (same_Some v count e) l
 place_of_lane (v ∷ verses) (suc s) count lane e l =
-    place_behind v verses s count lane (place_of_lane verses s count lane e l)
+    place_after v verses s count lane (place_of_lane verses s count lane e l)
 
 -- the number of a lane that keeps its marks apart, and its gap
 pub record IsNumber (count : ℕ) (lane : Lane) (number : ℕ) : Type 0 where
@@ -64,8 +64,8 @@ pub record IsNumber (count : ℕ) (lane : Lane) (number : ℕ) : Type 0 where
   pub low : number < lane_count count
   pub gap : slice_index (staff_gaps count) number ≡ gap_of lane
 
-gap_behind : (count k : ℕ) → k < 2 + count → slice_index (staff_gaps count) (suc k) ≡ 300
-gap_behind count k l = get_or-replicate (2 + count) k 300 0 l
+gap_after : (count k : ℕ) → k < 2 + count → slice_index (staff_gaps count) (suc k) ≡ 300
+gap_after count k l = get_or-replicate (2 + count) k 300 0 l
 
 verse_number : (n : ℕ) → 1 ≤ n → (if n == 0 then None else Some (2 + n)) ≡ Some (2 + n)
 verse_number n l = grind (arith, nat_tests)
@@ -73,16 +73,16 @@ verse_number n l = grind (arith, nat_tests)
 pub number_of : (count : ℕ) (lane : Lane) → Keeps lane → HasLane count lane → (number : ℕ) × IsNumber count lane number
 number_of count Lane.Main keeps has = (0, record { is = refl; low = omega arith; gap = refl })
 number_of count Lane.Above keeps has =
-    (1, record { is = refl; low = omega arith; gap = gap_behind count 0 (omega arith) })
+    (1, record { is = refl; low = omega arith; gap = gap_after count 0 (omega arith) })
 number_of count lanes.Below keeps has =
-    (2, record { is = refl; low = omega arith; gap = gap_behind count 1 (omega arith) })
+    (2, record { is = refl; low = omega arith; gap = gap_after count 1 (omega arith) })
 number_of count (Lane.Verse n) keeps (low, high) =
     let e : suc (1 + n) ≡ 2 + n = omega arith in (
       2 + n,
       record {
         is = verse_number n low;
         low = omega (arith, high);
-        gap = subst (λ k. slice_index (staff_gaps count) k ≡ 300) e (gap_behind count (1 + n) (omega (arith, high)));
+        gap = subst (λ k. slice_index (staff_gaps count) k ≡ 300) e (gap_after count (1 + n) (omega (arith, high)));
       },
     )
 number_of count Lane.Loose keeps has = absurd keeps

@@ -73,38 +73,38 @@ measures_numbered number (m ∷ ms) n h =
     h
 
 -- an event after another, and an end at an event or after it
-abbrev IsBehind : ArcEvent → ArcEvent → Type 0
-IsBehind e x = (e.event < x.event) × (e.measure ≤ x.measure)
+abbrev IsAfter : ArcEvent → ArcEvent → Type 0
+IsAfter e x = (e.event < x.event) × (e.measure ≤ x.measure)
 
 abbrev EndsFrom : ArcEvent → SlurEnd → Type 0
 EndsFrom e end = (e.event ≤ end.event) × (e.measure ≤ end.measure)
 
-abbrev EachBehind : List ArcEvent → Type 0
-EachBehind [] = Unit {0}
-EachBehind (e ∷ es) = AllByRecursion (IsBehind e) es × EachBehind es
+abbrev EachAfter : List ArcEvent → Type 0
+EachAfter [] = Unit {0}
+EachAfter (e ∷ es) = AllByRecursion (IsAfter e) es × EachAfter es
 
-behind : (e : ArcEvent) (n m : ℕ) (es : List ArcEvent)
-    → e.event < n → e.measure ≤ m → AreNumbered n m es → AllByRecursion (IsBehind e) es
-behind e n m [] less from h = tt
-behind e n m (x ∷ xs) less from h =
+following : (e : ArcEvent) (n m : ℕ) (es : List ArcEvent)
+    → e.event < n → e.measure ≤ m → AreNumbered n m es → AllByRecursion (IsAfter e) es
+following e n m [] less from h = tt
+following e n m (x ∷ xs) less from h =
     let own = h.0 in
     let on = h.1 in (
       (omega (arith, own, less), omega (arith, on, from)),
-      behind e (suc n) x.measure xs (omega (arith, less)) (omega (arith, on, from)) h.2,
+      following e (suc n) x.measure xs (omega (arith, less)) (omega (arith, on, from)) h.2,
     )
 
-each_behind : (n m : ℕ) (es : List ArcEvent) → AreNumbered n m es → EachBehind es
-each_behind n m [] h = tt
-each_behind n m (e ∷ es) h =
+each_after : (n m : ℕ) (es : List ArcEvent) → AreNumbered n m es → EachAfter es
+each_after n m [] h = tt
+each_after n m (e ∷ es) h =
     let own = h.0 in
-    (behind e (suc n) e.measure es (omega (arith, own)) (omega arith) h.2, each_behind (suc n) e.measure es h.2)
+    (following e (suc n) e.measure es (omega (arith, own)) (omega arith) h.2, each_after (suc n) e.measure es h.2)
 
 copies_are : (P : SlurEnd → Type 0) (n : ℕ) (at : SlurEnd) → P at → AllByRecursion P (slur_copies n at)
 copies_are P zero at h = tt
 copies_are P (suc n) at h = (h, copies_are P n at h)
 
 ends_from : (e : ArcEvent) (es : List ArcEvent)
-    → AllByRecursion (IsBehind e) es → AllByRecursion (EndsFrom e) (open_ends es)
+    → AllByRecursion (IsAfter e) es → AllByRecursion (EndsFrom e) (open_ends es)
 ends_from e [] h = tt
 ends_from e (x ∷ xs) h =
     let less = h.0.0 in
@@ -136,7 +136,7 @@ turned arcs h =
     (All-permutation GoesOn arcs (reverse arcs) (IsPermutation-reverse arcs) (All-from_recursion GoesOn arcs h))
 
 slurs_at_go : (e : ArcEvent) (es : List ArcEvent)
-    → AllByRecursion (IsBehind e) es → AllByRecursion GoesOn (slurs_at e es)
+    → AllByRecursion (IsAfter e) es → AllByRecursion GoesOn (slurs_at e es)
 slurs_at_go e es h =
     turned (slurs (slur_copies e.begins (spot e)) (slur_copies e.ends (spot e) ++ open_ends es))
     (slurs_go e e.begins (slur_copies e.ends (spot e) ++ open_ends es)
@@ -148,7 +148,7 @@ arc_if true a h = (h, tt)
 arc_if false a h = tt
 
 ties_go : (e : ArcEvent) (place : ℕ) (heads : List Head) (next : ArcEvent)
-    → IsBehind e next → AllByRecursion GoesOn (ties_from e place heads next)
+    → IsAfter e next → AllByRecursion GoesOn (ties_from e place heads next)
 ties_go e place [] next h = tt
 ties_go e place (head ∷ heads) next h =
     let arc : Arc =
@@ -156,11 +156,11 @@ ties_go e place (head ∷ heads) next h =
     all_append GoesOn (tie e place head next) (ties_from e (suc place) heads next)
     (arc_if (head.tied && list_any (has_pitch head.pitch) next.heads) arc h) (ties_go e (suc place) heads next h)
 
-ties_at_go : (e : ArcEvent) (es : List ArcEvent) → AllByRecursion (IsBehind e) es → AllByRecursion GoesOn (ties_at e es)
+ties_at_go : (e : ArcEvent) (es : List ArcEvent) → AllByRecursion (IsAfter e) es → AllByRecursion GoesOn (ties_at e es)
 ties_at_go e [] h = tt
 ties_at_go e (next ∷ es) h = ties_go e 0 e.heads next h.0
 
-arcs_go : (es : List ArcEvent) → EachBehind es → AllByRecursion GoesOn (arcs_of es)
+arcs_go : (es : List ArcEvent) → EachAfter es → AllByRecursion GoesOn (arcs_of es)
 arcs_go [] h = tt
 arcs_go (e ∷ es) h =
     all_append GoesOn (slurs_at e es ++ ties_at e es) (arcs_of es)
@@ -169,7 +169,7 @@ arcs_go (e ∷ es) h =
 pub voice_arcs_go : (v : Voice) → IsGoodVoice v → AllByRecursion GoesOn (drawn_voice v).arcs
 unfolding drawn_voice
 voice_arcs_go v good =
-    arcs_go (events_of_voice v) (each_behind 0 0 (events_of_voice v) (measures_numbered 0 v.measures 0 good.ids))
+    arcs_go (events_of_voice v) (each_after 0 0 (events_of_voice v) (measures_numbered 0 v.measures 0 good.ids))
 
 -- ---- the events at an arc's ends
 same_number : (m n : ℕ) → (m == n) ≡ true → m ≡ n
@@ -225,11 +225,11 @@ in_turn (x ∷ xs) e f on (zero, inside, is) (zero, inside', is') less =
     let same : e.flat.event.id ≡ f.flat.event.id = ap (λ z. z.flat.event.id) (sym is ∙ is') in
     absurd (omega (arith, less, same))
 in_turn (x ∷ xs) e f on (zero, inside, is) (suc j, inside', is') less =
-    let behind = event_of (IsEarlier x) xs f on.0 (j, omega (arith, inside'), is') in
-    subst (λ z. z.tick < f.tick) is behind.0
+    let following = event_of (IsEarlier x) xs f on.0 (j, omega (arith, inside'), is') in
+    subst (λ z. z.tick < f.tick) is following.0
 in_turn (x ∷ xs) e f on (suc i, inside, is) (zero, inside', is') less =
-    let behind = event_of (IsEarlier x) xs e on.0 (i, omega (arith, inside), is) in
-    let back = subst (λ z. z.flat.event.id < e.flat.event.id) is' behind.1 in
+    let following = event_of (IsEarlier x) xs e on.0 (i, omega (arith, inside), is) in
+    let back = subst (λ z. z.flat.event.id < e.flat.event.id) is' following.1 in
     absurd (omega (arith, less, back))
 in_turn (x ∷ xs) e f on (suc i, inside, is) (suc j, inside', is') less =
     in_turn xs e f on.1 (i, omega (arith, inside), is) (j, omega (arith, inside'), is') less

@@ -68,9 +68,9 @@ module _ (keys : List ColumnKey) where
       → AllByRecursion (HasEvent keys m) es → AllByRecursion (IsEarlier e) es
       → AllByRecursion (IsFrom (beam_stem_at m e)) (map (beam_stem_at m) es)
   unfolding stem_of
-  from_event m e [] all behind = tt
-  from_event m e (f ∷ fs) all behind =
-      (λ apart. (later_below m e f behind.0.0, all.0.note), from_event m e fs all.1 behind.1)
+  from_event m e [] all following = tt
+  from_event m e (f ∷ fs) all following =
+      (λ apart. (later_below m e f following.0.0, all.0.note), from_event m e fs all.1 following.1)
 
   stems : (m : ℕ) (es : List DrawnEvent)
       → AllByRecursion (HasEvent keys m) es → GoOn es → AreStems (map (beam_stem_at m) es)

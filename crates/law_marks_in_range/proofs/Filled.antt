@@ -21,7 +21,7 @@ use Rattle.mus_onsets.proofs.RankLaws.{false_not_true}
 use Rattle.mus_laid.specs.declared.drawn.LaneInk.{LaneInk}
 use Rattle.mus_ink.specs.declared.graces.Group.{Group}
 use Rattle.mus_ink.specs.Bars.{bar_marks}
-use Rattle.mus_ink.specs.Changes.{behind_clef, change_marks, clef_if, count_if, head_marks, key_if, new_entries}
+use Rattle.mus_ink.specs.Changes.{after_clef, change_marks, clef_if, count_if, head_marks, key_if, new_entries}
 use Rattle.mus_ink.specs.Decos.{body_marks, note_marks}
 use Rattle.mus_ink.specs.Distances.{entry_gap, entry_step}
 use Rattle.mus_ink.specs.Graces.{grace_body, grace_marks}
@@ -88,7 +88,7 @@ pub change_has : (c : Clef) (old : List Sign) (ch : Changes)
     → has_some (change_marks c old ch) ≡ change_has_mark (nat_le 1 (length old)) ch
 unfolding change_marks
 change_has c old ch =
-    let x = behind_clef ch.clef in
+    let x = after_clef ch.clef in
     let key = key_if c (x + entry_gap) old ch.key in
     let meter = meter_if (x + entry_step * count_if old ch.key) ch.meter in
     either (clef_if ch.clef ++ key) meter ∙ ap (λ b. b || has_some meter) (either (clef_if ch.clef) key)

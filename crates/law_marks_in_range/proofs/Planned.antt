@@ -27,7 +27,7 @@ use Rattle.mus_drawn.specs.declared.drawn.DrawnMeasure.{DrawnMeasure}
 use Rattle.mus_drawn.specs.declared.drawn.Style.{Style}
 use Rattle.mus_drawn.specs.declared.standing.StaffState.{StaffState}
 use Rattle.mus_drawn.specs.Drawn.{drawn_events, drawn_measure, drawn_measures, drawn_voice, standing_after}
-use Rattle.mus_drawn.specs.Drawn.{standing_behind, standing_of, style_of}
+use Rattle.mus_drawn.specs.Drawn.{staff_state_after, standing_of, style_of}
 
 pub record IsPlanOf (e : Event) (p : StemPlan) : Type 0 where
   pub flags : p.flags ≡ flags_of e.value.base
@@ -161,7 +161,7 @@ module _ (style : Style) where
   measures_planned : (now : StaffState) (ms : List Measure)
       → AllByRecursion (IsMeasureAt style.seat) (drawn_measures style now ms)
   measures_planned now [] = tt
-  measures_planned now (m ∷ ms) = (measure_planned now m, measures_planned (standing_behind now (flats_of m.body)) ms)
+  measures_planned now (m ∷ ms) = (measure_planned now m, measures_planned (staff_state_after now (flats_of m.body)) ms)
 
 pub voice_planned : (v : Voice) → AllByRecursion (IsMeasureAt (drawn_voice v).seat) (drawn_voice v).measures
 unfolding drawn_voice

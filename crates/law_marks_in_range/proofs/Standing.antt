@@ -34,7 +34,7 @@ use Rattle.mus_drawn.specs.declared.drawn.DrawnVoice.{DrawnVoice}
 use Rattle.mus_drawn.specs.Drawn.{raise_of}
 use Rattle.mus_time.specs.{Columns.{events_columns, has_old, measures_columns, voice_columns}, Columns.{note_key}}
 use Rattle.mus_marks.specs.declared.events.WordRoom.{WordRoom}
-use Rattle.mus_marks.specs.Events.{change_part, event_marks, events_marks, graces_from, levels_behind, levels_in}
+use Rattle.mus_marks.specs.Events.{change_part, event_marks, events_marks, graces_from, levels_after, levels_in}
 use Rattle.mus_marks.specs.Events.{measures_marks, words_marks, words_part}
 use Rattle.mus_marks.specs.Staff.{columns_part, head_part, meter_shown, own_part}
 use Rattle.mus_marks.proofs.Inside.{AreAmong, among_left, among_right, here}
@@ -196,13 +196,13 @@ module _ (keys : List ColumnKey) where
       let key = note_key m e in
       let lower = is_lower e.seat in
       let own = kept lower key refl in
-      let front =
+      let prefix =
       change_keys m e.tick in_head (has_old e) e.flat.event.changes ++ grace_keys m e.tick 0 e.flat.graces in
       beside (words_part (key_rank keys key) place e.flat)
       (λ among.
-      let all = subst (λ t. AreAmong t keys) (keys_join lower front (key ∷ [])) among in
+      let all = subst (λ t. AreAmong t keys) (keys_join lower prefix (key ∷ [])) among in
       let last =
-      subst (λ t. AreAmong t keys) own (among_right (keys_by lower front) (keys_by lower (key ∷ [])) keys all) in
+      subst (λ t. AreAmong t keys) own (among_right (keys_by lower prefix) (keys_by lower (key ∷ [])) keys all) in
       drawn_ranked (length keys) (key_rank keys key) (words_marks place (key_rank keys key) e.flat)
       (rank_less keys key (last key (here key []))))
       (two (two (change lower m in_head e)
@@ -215,7 +215,7 @@ module _ (keys : List ColumnKey) where
       → Fill (is_lower seat) (events_columns m in_head es) (events_marks keys place m in_head group flags es)
   events seat place m in_head group flags [] plans = none (is_lower seat)
   events seat place m in_head group flags (e ∷ es) plans =
-      let before = levels_in e.plan group flags in let after = levels_behind e.plan es in
+      let before = levels_in e.plan group flags in let after = levels_after e.plan es in
       two (subst
       (λ s.
       Fill (is_lower s) (event_keys m e.tick in_head (has_old e) e.flat)
@@ -267,8 +267,8 @@ module _ (keys : List ColumnKey) where
   columns lengths place a b v order within plans =
       let ds = slice_range v.measures a b in
       let taken = length-take (b - a) (drop a v.measures) in
-      let behind = length-drop a v.measures in
-      let some : 1 ≤ length ds = omega (arith, taken, behind, order, within) in
+      let following = length-drop a v.measures in
+      let some : 1 ≤ length ds = omega (arith, taken, following, order, within) in
       let sliced =
       all_take (IsMeasureAt v.seat) (b - a) (drop a v.measures) (all_drop (IsMeasureAt v.seat) a v.measures plans) in
       two (two (head v.seat a ds some sliced) (first (is_lower v.seat) (a == 0) (has_features v.first) v.first))

@@ -16,7 +16,7 @@ use Rattle.mus_bridges.specs.Bridges.{bridges_of}
 use Rattle.mus_marks.specs.declared.events.WordRoom.{WordRoom}
 use Rattle.mus_marks.specs.declared.events.StaffRoom.{StaffRoom}
 use Rattle.mus_marks.specs.declared.events.TextCounts.{TextCounts}
-use Rattle.mus_marks.specs.Staff.{own_part, room_over, staff_bridges, staff_marks, staff_over, texts_behind, verses_on}
+use Rattle.mus_marks.specs.Staff.{own_part, room_over, staff_bridges, staff_marks, staff_over, texts_after, verses_on}
 use Rattle.mus_marks.specs.Staff.{bare_marks, written_parts}
 use Rattle.mus_marks.proofs.Columned.{columned_all, columned_has}
 use Rattle.mus_marks.proofs.Inside.{AreAmong}
@@ -46,7 +46,7 @@ module _ (keys : List ColumnKey) (lengths : List ℕ) (a b : ℕ) where
       let place : Option WordRoom = Some (record { room = room; first = first; before = before }) in
       let part = own_part keys lengths place a b v in (
         (columns keys lengths place a b v order h.0.long h.0.planned).ranked h.0.among,
-        parts_ranked room (first + v.verses) (texts_behind (length keys) before part) voices order h.1,
+        parts_ranked room (first + v.verses) (texts_after (length keys) before part) voices order h.1,
       )
 
   parts_hold : (room : StaffRoom) (first : ℕ) (before : List TextCounts) (voices : List DrawnVoice)
@@ -57,8 +57,8 @@ module _ (keys : List ColumnKey) (lengths : List ℕ) (a b : ℕ) where
   parts_hold room first before (v ∷ voices) order h k has =
       let place : Option WordRoom = Some (record { room = room; first = first; before = before }) in
       let part = own_part keys lengths place a b v in
-      let behind = texts_behind (length keys) before part in
-      let more = flat_map (λ part. part) (written_parts keys lengths room a b (first + v.verses) behind voices) in
+      let following = texts_after (length keys) before part in
+      let more = flat_map (λ part. part) (written_parts keys lengths room a b (first + v.verses) following voices) in
       elim (Contains-append_cases (own_columns lengths a b v) (flat_map (own_columns lengths a b) voices) k has) as
       (λ c.
       HasRank (key_rank keys k) (part ++ more)) [
@@ -66,7 +66,8 @@ module _ (keys : List ColumnKey) (lengths : List ℕ) (a b : ℕ) where
             rank_left (key_rank keys k) part more
             ((columns keys lengths place a b v order h.0.long h.0.planned).anchored k own)
         | inr others ↦
-            rank_right (key_rank keys k) part more (parts_hold room (first + v.verses) behind voices order h.1 k others)
+            rank_right (key_rank keys k) part more
+            (parts_hold room (first + v.verses) following voices order h.1 k others)
       ]
 
   -- ---- beams and arcs

@@ -84,20 +84,20 @@ module _ (keys : List ColumnKey) (r : ℕ) where
         → x.tie ≡ false → flat_map ends (piece_between lengths a b ds x piece) ≡ []
     slur_piece piece x slur = grind (arith, slur_between, slur)
 
-    arcs_told : (xs : List Arc)
+    arcs_known : (xs : List Arc)
         → flat_map ends (arcs_between lengths a b ds xs) ≡ flat_map arc_ends (filter (λ x. x.tie) xs)
-    arcs_told [] = refl
-    arcs_told (x ∷ xs) =
+    arcs_known [] = refl
+    arcs_known (x ∷ xs) =
         let slur = slur_piece (piece_of x a b) x in
-        let more = arcs_told xs in
+        let more = arcs_known xs in
         flat_map-append ends (arc_in lengths a b ds x) (arcs_between lengths a b ds xs) ∙ grind (arith, slur, more)
 
-  pub bridges_told : (lengths : List ℕ) (a b : ℕ) (v : DrawnVoice)
+  pub bridges_known : (lengths : List ℕ) (a b : ℕ) (v : DrawnVoice)
       → tie_ends_at (staff_bridges keys lengths a b (v ∷ [])) r
       ≡ flat_map (arc_ends lengths a b v.measures) (filter (λ x. x.tie) v.arcs)
-  bridges_told lengths a b v =
+  bridges_known lengths a b v =
       flat_map-map (λ l. tied_at r l.mark) (bridge_at keys) (bridges_of lengths a b v ++ [])
-      ∙ simp (append-nil, flat_map-append, all_beams, all_graces, arcs_told lengths a b v.measures v.arcs)
+      ∙ simp (append-nil, flat_map-append, all_beams, all_graces, arcs_known lengths a b v.measures v.arcs)
 
 -- ---- the height that a tie gives: it ends 400 from its head, which is in reach
 tie_back : (up : Bool) (c : Clef) (h : Head) → IsInReach c h → beside_head up (dy_of c h) -ℤ tie_bulge up ≡ dy_of c h
@@ -105,11 +105,11 @@ unfolding beside_head cut_dy dy_of steps_dy
 tie_back true c h near = omega (arith, ints, clamps, near.0, near.1)
 tie_back false c h near = omega (arith, ints, clamps, near.0, near.1)
 
-height_told : (up : Bool) (c : Clef) (p : Pitch) (hs : List Head) → AllByRecursion (IsInReach c) hs
+height_known : (up : Bool) (c : Clef) (p : Pitch) (hs : List Head) → AllByRecursion (IsInReach c) hs
     → (if list_any (has_pitch p) hs then (tie_dy up c (find (has_pitch p) hs) -ℤ tie_bulge up) ∷ [] else [])
     ≡ height_if c (find (has_pitch p) hs)
-height_told up c p [] near = refl
-height_told up c p (h ∷ hs) near = by (has_pitch p h) (height_told up c p hs near.1)
+height_known up c p [] near = refl
+height_known up c p (h ∷ hs) near = by (has_pitch p h) (height_known up c p hs near.1)
   where
     by : (b : Bool)
         → (if list_any (has_pitch p) hs then (tie_dy up c (find (has_pitch p) hs) -ℤ tie_bulge up) ∷ [] else [])
@@ -133,7 +133,7 @@ module _ (f : Arc → List ℤ) (e next : ArcEvent) where
   of_head : (k : ℕ) (z : ℤ) (t b : Bool)
       → f (tie_to e next k) ≡ z ∷ []
       → flat_map f (if t && b then tie_to e next k ∷ [] else []) ≡ (if t then if b then z ∷ [] else [] else [])
-  of_head k z t b told = grind (arith, append-nil, told)
+  of_head k z t b known = grind (arith, append-nil, known)
 
   pub ties_here : (up : Bool) (k : ℕ) (c : Clef) (hs : List Head) → AllByRecursion (IsInReach c) next.heads
       → ((i n : ℕ) (h : Head) → n ≡ i + k → slice_get hs i ≡ Some h
@@ -145,7 +145,7 @@ module _ (f : Arc → List ℤ) (e next : ArcEvent) where
       flat_map-append f (tie e k h next) (ties_from e (suc k) hs next)
       ∙ rw (
         of_head k height h.tied (list_any (has_pitch h.pitch) next.heads) (here 0 k h (omega arith) refl),
-        height_told up c h.pitch next.heads near,
+        height_known up c h.pitch next.heads near,
         ties_here up (suc k) c hs near (λ i n g same. here (suc i) n g (omega (arith, same))),
       ) refl
 

@@ -35,7 +35,7 @@ use Rattle.mus_drawn.specs.declared.drawn.DrawnMeasure.{DrawnMeasure}
 use Rattle.mus_drawn.specs.declared.drawn.Style.{Style}
 use Rattle.mus_drawn.specs.declared.standing.StaffState.{StaffState}
 use Rattle.mus_drawn.specs.Drawn.{drawn_events, drawn_measure, drawn_measures, drawn_voice, opening_of, standing_after}
-use Rattle.mus_drawn.specs.Drawn.{standing_behind, standing_of, style_of}
+use Rattle.mus_drawn.specs.Drawn.{staff_state_after, standing_of, style_of}
 use Rattle.mus_drawn.proofs.Reaches.{near_of, reach_cut}
 use Rattle.mus_marks.specs.Tilt.{sloped_over, voice_tilted}
 use Rattle.mus_marks.proofs.Ending.{flat_event, flat_measure, flat_voice}
@@ -154,7 +154,7 @@ module _ (keys : List ColumnKey) (a b : ℕ) where
           events = events.1;
           seats = seats;
         },
-        measures_drawn style (m + 1) (standing_behind now fs) xs alone parts.1 on.1
+        measures_drawn style (m + 1) (staff_state_after now fs) xs alone parts.1 on.1
             (λ k n e same. has (suc k) n e (omega (arith, same))),
       )
 
@@ -190,28 +190,28 @@ module _ (keys : List ColumnKey) (a b : ℕ) where
           events = events_kept now d.events r.events;
           seats = seats_kept m 0 0 d.events r.seats;
         },
-        measures_kept (m + 1) (standing_behind now (flats_of x.body)) xs ds drawn.1,
+        measures_kept (m + 1) (staff_state_after now (flats_of x.body)) xs ds drawn.1,
       )
   measures_kept m now xs ds drawn = absurd drawn
 
   -- ---- some of the measures
-  pub measures_behind : (k m n : ℕ) (now : StaffState) (xs : List Measure) (ds : List DrawnMeasure)
+  pub measures_after : (k m n : ℕ) (now : StaffState) (xs : List Measure) (ds : List DrawnMeasure)
       → n ≡ k + m → MeasuresDrawn keys a b m now xs ds
       → MeasuresDrawn keys a b n (standing_through now (take k xs)) (drop k xs) (drop k ds)
-  measures_behind zero m n now xs ds at drawn =
+  measures_after zero m n now xs ds at drawn =
       let here : m ≡ n = omega (arith, at) in subst (λ i. MeasuresDrawn keys a b i now xs ds) here drawn
-  measures_behind (suc k) m n now [] [] at drawn = tt
-  measures_behind (suc k) m n now (x ∷ xs) (d ∷ ds) at drawn =
-      measures_behind k (m + 1) n (standing_behind now (flats_of x.body)) xs ds (omega (arith, at)) drawn.1
-  measures_behind (suc k) m n now xs ds at drawn = absurd drawn
+  measures_after (suc k) m n now [] [] at drawn = tt
+  measures_after (suc k) m n now (x ∷ xs) (d ∷ ds) at drawn =
+      measures_after k (m + 1) n (staff_state_after now (flats_of x.body)) xs ds (omega (arith, at)) drawn.1
+  measures_after (suc k) m n now xs ds at drawn = absurd drawn
 
-  pub measures_front : (n m : ℕ) (now : StaffState) (xs : List Measure) (ds : List DrawnMeasure)
+  pub measures_prefix : (n m : ℕ) (now : StaffState) (xs : List Measure) (ds : List DrawnMeasure)
       → MeasuresDrawn keys a b m now xs ds → MeasuresDrawn keys a b m now (take n xs) (take n ds)
-  measures_front zero m now xs ds drawn = tt
-  measures_front (suc n) m now [] [] drawn = tt
-  measures_front (suc n) m now (x ∷ xs) (d ∷ ds) drawn =
-      (drawn.0, measures_front n (m + 1) (standing_behind now (flats_of x.body)) xs ds drawn.1)
-  measures_front (suc n) m now xs ds drawn = absurd drawn
+  measures_prefix zero m now xs ds drawn = tt
+  measures_prefix (suc n) m now [] [] drawn = tt
+  measures_prefix (suc n) m now (x ∷ xs) (d ∷ ds) drawn =
+      (drawn.0, measures_prefix n (m + 1) (staff_state_after now (flats_of x.body)) xs ds drawn.1)
+  measures_prefix (suc n) m now xs ds drawn = absurd drawn
 
 pub voice_drawn : (s : Score) (v : Voice) (keys : List ColumnKey) (at : List ℤ) (a b : ℕ)
     → IsGoodScore s → Contains s.voices v → v.seat ≡ Seat.Alone → b ≤ s.measures

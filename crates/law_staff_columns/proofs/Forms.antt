@@ -14,7 +14,7 @@ use Rattle.mus_time.specs.Columns.{note_key}
 use Rattle.mus_drawn.specs.declared.drawn.DrawnEvent.{DrawnEvent}
 use Rattle.mus_drawn.specs.declared.drawn.DrawnMeasure.{DrawnMeasure}
 use Rattle.mus_drawn.specs.declared.standing.StaffState.{StaffState}
-use Rattle.mus_drawn.specs.Drawn.{old_signs, standing_after, standing_behind}
+use Rattle.mus_drawn.specs.Drawn.{old_signs, standing_after, staff_state_after}
 use Rattle.ps_heard.specs.declared.column.HeardGlyph.{HeardGlyph}
 use Rattle.ps_heard.specs.Columns.{noted}
 use Rattle.ps_heard.specs.Roles.{role_of}
@@ -84,5 +84,5 @@ module _ (keys : List ColumnKey) (a b : ℕ) where
   abbrev pub MeasuresDrawn : ℕ → StaffState → List Measure → List DrawnMeasure → Type 0
   MeasuresDrawn m now [] [] = ⊤
   MeasuresDrawn m now (x ∷ xs) (d ∷ ds) =
-      IsMeasureOf m now x d × MeasuresDrawn (m + 1) (standing_behind now (flats_of x.body)) xs ds
+      IsMeasureOf m now x d × MeasuresDrawn (m + 1) (staff_state_after now (flats_of x.body)) xs ds
   MeasuresDrawn m now _ _ = ⊥

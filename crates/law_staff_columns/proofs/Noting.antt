@@ -25,7 +25,7 @@ use Rattle.mus_stems.proofs.ColumnLaws.{signs_in_columns}
 use Rattle.mus_ink.specs.declared.graces.Group.{Group}
 use Rattle.mus_ink.specs.Bars.{bar_marks, glyph_if}
 use Rattle.mus_ink.specs.Changes.{change_marks, head_marks, key_if, new_entries}
-use Rattle.mus_ink.specs.Decos.{behind_deco, body_marks, deco_marks, note_marks}
+use Rattle.mus_ink.specs.Decos.{after_deco, body_marks, deco_marks, note_marks}
 use Rattle.mus_ink.specs.Distances.{entry_step, grace_sign_side, signature_side}
 use Rattle.mus_ink.specs.Drawing.{back, cut_dy, steps_dy}
 use Rattle.mus_ink.specs.Graces.{at_end, grace_body, grace_head_ink, grace_marks}
@@ -71,7 +71,7 @@ stems_quiet plan before after = grind (arith, flat_map-append, flags_quiet, stub
 
 decos_quiet : (dy : ℤ) (ds : List Deco) → drawn_notes (deco_marks dy ds) ≡ []
 decos_quiet dy [] = refl
-decos_quiet dy (d ∷ ds) = grind (arith, flat_map-append, decos_quiet (behind_deco dy (deco_glyph d)) ds)
+decos_quiet dy (d ∷ ds) = grind (arith, flat_map-append, decos_quiet (after_deco dy (deco_glyph d)) ds)
 
 shorts_quiet : (top : ℤ) (k n : ℕ) → drawn_notes (short_rests Glyph.R8 top k n) ≡ []
 shorts_quiet top k zero = refl
@@ -105,9 +105,9 @@ words_quiet : OfWords (λ n. ⊤) (λ d. ink_notes d.ink ≡ [])
 words_quiet =
     record { of_syllable = λ low n t verse shown. refl; of_above = λ dy t shown. refl; of_below = λ dy t shown. refl }
 
-pub words_told : (place : Option WordRoom) (r : ℕ) (f : Flat) → drawn_notes (words_marks place r f) ≡ []
-words_told None r f = refl
-words_told (Some place) r f =
+pub words_known : (place : Option WordRoom) (r : ℕ) (f : Flat) → drawn_notes (words_marks place r f) ≡ []
+words_known None r f = refl
+words_known (Some place) r f =
     let syllables = all_quiet _
     (syllables_all (λ n. ⊤) (λ d. ink_notes d.ink ≡ []) words_quiet place.room.low place.first f.event.words
     (λ i inside. tt)) in
@@ -117,110 +117,110 @@ words_told (Some place) r f =
     simp (flat_map-append, syllables, texts)
 
 -- ---- clefs and entries
-clef_told : (c : Clef)
+clef_known : (c : Clef)
     → noted (role_of (clef_row c).glyph (steps_dy (clef_row c).line)) (steps_dy (clef_row c).line) ≡ clef_note c ∷ []
 unfolding steps_dy cut_dy
-clef_told c = grind arith
+clef_known c = grind arith
 
-entry_told : (a : Alter) (dy : ℤ) → noted (role_of (sign_glyph a) dy) dy ≡ note (Role.Sign a) dy ∷ []
-entry_told a dy = grind arith
+entry_known : (a : Alter) (dy : ℤ) → noted (role_of (sign_glyph a) dy) dy ≡ note (Role.Sign a) dy ∷ []
+entry_known a dy = grind arith
 
-entries_told : (c : Clef) (first k : ℕ) (ss : List Sign)
+entries_known : (c : Clef) (first k : ℕ) (ss : List Sign)
     → drawn_notes (entry_marks c false first k ss) ≡ entry_notes c ss
 unfolding entry_mark
-entries_told c first k [] = refl
-entries_told c first k (s ∷ ss) = simp (entry_told, entries_told c first (k + 1) ss)
+entries_known c first k [] = refl
+entries_known c first k (s ∷ ss) = simp (entry_known, entries_known c first (k + 1) ss)
 
-ends_told : (c : Clef) (first k : ℕ) (ss : List Sign)
+ends_known : (c : Clef) (first k : ℕ) (ss : List Sign)
     → drawn_notes (entry_marks c true first k ss) ≡ entry_notes c (naturals ss)
 unfolding entry_mark
-ends_told c first k [] = refl
-ends_told c first k (s ∷ ss) = simp (ends_told c first (k + 1) ss)
+ends_known c first k [] = refl
+ends_known c first k (s ∷ ss) = simp (ends_known c first (k + 1) ss)
 
-pub head_told : (c : Clef) (signs : List Sign) (meter : Option Meter)
+pub head_known : (c : Clef) (signs : List Sign) (meter : Option Meter)
     → drawn_notes (head_marks c signs meter) ≡ head_column_notes c signs
 unfolding head_marks
-head_told c signs meter =
+head_known c signs meter =
     let rest : drawn_notes
     (entry_marks c false signature_side 0 signs ++ meter_if (signature_side + entry_step * length signs) meter)
     ≡ entry_notes c signs =
-    simp (flat_map-append, entries_told, meter_quiet, append-nil) in
-    rw (clef_told, rest) refl
+    simp (flat_map-append, entries_known, meter_quiet, append-nil) in
+    rw (clef_known, rest) refl
 
-new_told : (c : Clef) (first : ℕ) (old new : List Sign)
+new_known : (c : Clef) (first : ℕ) (old new : List Sign)
     → drawn_notes (new_entries c first old new) ≡ entry_notes c (new_signs old new)
-new_told c first old [] = ends_told c first 0 old
-new_told c first old (s ∷ ss) = entries_told c first 0 (s ∷ ss)
+new_known c first old [] = ends_known c first 0 old
+new_known c first old (s ∷ ss) = entries_known c first 0 (s ∷ ss)
 
-key_told : (c : Clef) (first : ℕ) (old : Key) (new : Option Key)
+key_known : (c : Clef) (first : ℕ) (old : Key) (new : Option Key)
     → drawn_notes (key_if c first (old_signs old new) new) ≡ entry_notes c (change_signs old.signs new)
-key_told c first old new = grind (arith, new_told)
+key_known c first old new = grind (arith, new_known)
 
-pub change_told : (c : Clef) (key : Key) (changes : Changes)
+pub change_known : (c : Clef) (key : Key) (changes : Changes)
     → drawn_notes (change_marks c (old_signs key changes.key) changes)
     ≡ change_notes c key.signs changes.clef changes.key
 unfolding change_marks
-change_told c key changes = grind (arith, flat_map-append, clef_told, key_told, meter_quiet, append-nil)
+change_known c key changes = grind (arith, flat_map-append, clef_known, key_known, meter_quiet, append-nil)
 
-pub bar_told : (b : Bar) → drawn_notes (bar_marks b) ≡ bar_notes b
+pub bar_known : (b : Bar) → drawn_notes (bar_marks b) ≡ bar_notes b
 unfolding bar_marks
-bar_told b = simp (flat_map-append, glyph_quiet, append-nil)
+bar_known b = simp (flat_map-append, glyph_quiet, append-nil)
 
 -- ---- chords
-signs_told : (c : Clef) (hs : List Head) (dxs : List (Option ℤ))
+signs_known : (c : Clef) (hs : List Head) (dxs : List (Option ℤ))
     → AreSigned hs dxs → drawn_notes (sign_marks c hs dxs) ≡ sign_notes c hs
-signs_told c [] dxs signed = refl
-signs_told c (h ∷ hs) [] signed = absurd signed
-signs_told c (h ∷ hs) (None ∷ dxs) signed = rw signed.0 (signs_told c hs dxs signed.1)
-signs_told c (h ∷ hs) (Some dx ∷ dxs) signed = grind (arith, flat_map-append, entry_told, signs_told c hs dxs signed)
+signs_known c [] dxs signed = refl
+signs_known c (h ∷ hs) [] signed = absurd signed
+signs_known c (h ∷ hs) (None ∷ dxs) signed = rw signed.0 (signs_known c hs dxs signed.1)
+signs_known c (h ∷ hs) (Some dx ∷ dxs) signed = grind (arith, flat_map-append, entry_known, signs_known c hs dxs signed)
 
 one_head : (base : Base) (dy : ℤ) → noted (role_of (head_glyph base) dy) dy ≡ note Role.Head dy ∷ []
 one_head base dy = grind arith
 
-heads_told : (c : Clef) (base : Base) (hs : List Head) (dxs : List ℤ)
+heads_known : (c : Clef) (base : Base) (hs : List Head) (dxs : List ℤ)
     → AreShifted hs dxs → drawn_notes (note_heads c (head_glyph base) hs dxs) ≡ head_notes Role.Head c hs
-heads_told c base [] dxs shifted = refl
-heads_told c base (h ∷ hs) [] shifted = absurd shifted
-heads_told c base (h ∷ hs) (dx ∷ dxs) shifted = simp (one_head, heads_told c base hs dxs shifted)
+heads_known c base [] dxs shifted = refl
+heads_known c base (h ∷ hs) [] shifted = absurd shifted
+heads_known c base (h ∷ hs) (dx ∷ dxs) shifted = simp (one_head, heads_known c base hs dxs shifted)
 
-body_told : (c : Clef) (raise : ℤ) (hs : List Head) (e : Event) (plan : StemPlan) (before after : ℕ)
+body_known : (c : Clef) (raise : ℤ) (hs : List Head) (e : Event) (plan : StemPlan) (before after : ℕ)
     → AreSigned hs plan.signs → AreShifted hs plan.shifts
     → drawn_notes (body_marks c raise hs e plan before after) ≡ sign_notes c hs ++ head_notes Role.Head c hs
 unfolding heads_marks
-body_told c raise [] e plan before after signed shifted = rest_quiet raise e.look e.value.base e.value.dots plan.flags
-body_told c raise (h ∷ hs) e plan before after signed shifted =
+body_known c raise [] e plan before after signed shifted = rest_quiet raise e.look e.value.base e.value.dots plan.flags
+body_known c raise (h ∷ hs) e plan before after signed shifted =
     simp (
       flat_map-append,
-      signs_told c (h ∷ hs) plan.signs signed,
+      signs_known c (h ∷ hs) plan.signs signed,
       ledgers_quiet,
-      heads_told c e.value.base (h ∷ hs) plan.shifts shifted,
+      heads_known c e.value.base (h ∷ hs) plan.shifts shifted,
       dots_quiet,
       stems_quiet,
       append-nil,
     )
 
-pub note_told : (c : Clef) (raise : ℤ) (e : Event) (plan : StemPlan) (before after : ℕ)
+pub note_known : (c : Clef) (raise : ℤ) (e : Event) (plan : StemPlan) (before after : ℕ)
     → AreSigned e.heads plan.signs → AreShifted e.heads plan.shifts
     → drawn_notes (note_marks c raise e plan before after) ≡ sign_notes c e.heads ++ head_notes Role.Head c e.heads
 unfolding note_marks
-note_told c raise e plan before after signed shifted =
-    simp (flat_map-append, body_told c raise e.heads e plan before after signed shifted, decos_quiet, append-nil)
+note_known c raise e plan before after signed shifted =
+    simp (flat_map-append, body_known c raise e.heads e plan before after signed shifted, decos_quiet, append-nil)
 
-graces_told : (c : Clef) (hs : List Head) → drawn_notes (grace_head_ink c hs) ≡ head_notes Role.Grace c hs
-graces_told c [] = refl
-graces_told c (h ∷ hs) = simp (graces_told c hs)
+graces_known : (c : Clef) (hs : List Head) → drawn_notes (grace_head_ink c hs) ≡ head_notes Role.Grace c hs
+graces_known c [] = refl
+graces_known c (h ∷ hs) = simp (graces_known c hs)
 
-pub grace_told : (c : Clef) (group : Group) (first : Bool) (g : Event)
+pub grace_known : (c : Clef) (group : Group) (first : Bool) (g : Event)
     → All (IsInReach c) g.heads
     → drawn_notes (grace_marks c group first g) ≡ sign_notes c g.heads ++ head_notes Role.Grace c g.heads
 unfolding grace_marks grace_body
-grace_told c group first g reach =
+grace_known c group first g reach =
     let signs = signs_in_columns (back grace_sign_side) _ (near_of c g.heads reach) in
     simp (
       flat_map-append,
-      signs_told c g.heads _ (signs_placed _ c g.heads _ signs),
+      signs_known c g.heads _ (signs_placed _ c g.heads _ signs),
       ledgers_quiet,
-      graces_told,
+      graces_known,
       end_quiet,
       append-nil,
     )

@@ -19,7 +19,7 @@ use Rattle.mus_arcs.specs.Events.{at_measure, events_from}
 use Rattle.mus_drawn.specs.declared.drawn.DrawnEvent.{DrawnEvent}
 use Rattle.mus_drawn.specs.declared.drawn.DrawnMeasure.{DrawnMeasure}
 use Rattle.mus_drawn.specs.declared.standing.StaffState.{StaffState}
-use Rattle.mus_drawn.specs.Drawn.{standing_behind}
+use Rattle.mus_drawn.specs.Drawn.{staff_state_after}
 use Rattle.mus_onsets.proofs.Orders.{below_through, lower}
 use Rattle.mus_marks.proofs.GoingOn.{later_below}
 use Rattle.law_staff_columns.proofs.Rising.{class_below}
@@ -93,7 +93,7 @@ module _ (keys : List ColumnKey) (a b : ℕ) where
       (λ e low. class_below m m 0 e.tick 0 0 Class.Head Class.Note (omega arith) (λ same. low) (omega arith))
       drawn.0.seats
       (λ i h. sym (ap (event_in i) (at 0 m d (omega arith) refl)))
-      (measures_go all (m + 1) (standing_behind now (flats_of x.body)) xs ds drawn.1
+      (measures_go all (m + 1) (staff_state_after now (flats_of x.body)) xs ds drawn.1
       (λ k n f same. at (suc k) n f (omega (arith, same))))
   measures_go all m now xs ds drawn at = absurd drawn
 
@@ -107,7 +107,7 @@ module _ (keys : List ColumnKey) (a b : ℕ) where
       → MeasuresDrawn keys a b m now xs ds → map scored (all_placed m ds) ≡ events_from m xs
   measures_scored m now [] [] drawn = refl
   measures_scored m now (x ∷ xs) (d ∷ ds) drawn =
-      let more = measures_scored (m + 1) (standing_behind now (flats_of x.body)) xs ds drawn.1
+      let more = measures_scored (m + 1) (staff_state_after now (flats_of x.body)) xs ds drawn.1
       ∙ ap (λ n. events_from n xs) (add-one m) in
       simp (map-append, events_scored, drawn.0.flats, more)
   measures_scored m now xs ds drawn = absurd drawn

@@ -21,7 +21,7 @@ use Rattle.mus_drawn.specs.declared.drawn.DrawnEvent.{DrawnEvent}
 use Rattle.mus_drawn.specs.declared.drawn.DrawnMeasure.{DrawnMeasure}
 use Rattle.mus_drawn.specs.declared.drawn.DrawnVoice.{DrawnVoice}
 use Rattle.mus_drawn.specs.declared.standing.StaffState.{StaffState}
-use Rattle.mus_drawn.specs.Drawn.{standing_behind}
+use Rattle.mus_drawn.specs.Drawn.{staff_state_after}
 use Rattle.mus_time.specs.Columns.{events_columns, has_old, measures_columns, note_key}
 use Rattle.mus_marks.specs.Tilt.{voice_ended}
 use Rattle.mus_marks.proofs.Ending.{flat_event, flat_measure, flat_voice}
@@ -75,9 +75,9 @@ event_rises k m t true gs h = (
       (tick_below m t 0 0 Class.Change Class.Note (omega arith)),
 )
 event_rises k m t false gs h =
-    let behind = λ (c : Class) (more : 2 < class_number c).
+    let following = λ (c : Class) (more : 2 < class_number c).
     below_through k (key_at m t Class.Change 0) (key_at m t c 0) h (tick_below m t 0 0 Class.Change c more) in
-    graces_rise k m t 0 gs (behind Class.Grace (omega arith)) (behind Class.Note (omega arith))
+    graces_rise k m t 0 gs (following Class.Grace (omega arith)) (following Class.Note (omega arith))
 
 -- after the head of the system, or after an earlier measure
 abbrev IsEarly : ColumnKey → ℕ → Type 0
@@ -110,14 +110,14 @@ module _ (keys : List ColumnKey) (lengths : List ℕ) (a b : ℕ) (places : All 
   events_rise k m id low in_head [] from to seats before below = (below, tt)
   events_rise k m id low in_head (e ∷ es) from to seats before below =
       let c = not in_head && change_has_mark (has_old e) e.flat.event.changes in
-      let front = (if c then key_at m e.tick Class.Change 0 ∷ [] else []) in
+      let prefix = (if c then key_at m e.tick Class.Change 0 ∷ [] else []) in
       let graces = grace_keys m e.tick 0 e.flat.graces in
       let more = events_columns m false es in
       let within = (All-contains (IsInSystem lengths a b) keys (note_key m e) places (seats.0.column from to)).within in
-      let same : (front ++ graces) ++ note_key m e ∷ (more ++ bar_key lengths m ∷ []) ≡
-      ((front ++ graces ++ note_key m e ∷ []) ++ more) ++ bar_key lengths m ∷ [] = simp append_assoc in
+      let same : (prefix ++ graces) ++ note_key m e ∷ (more ++ bar_key lengths m ∷ []) ≡
+      ((prefix ++ graces ++ note_key m e ∷ []) ++ more) ++ bar_key lengths m ∷ [] = simp append_assoc in
       subst (RiseFrom k) same
-      (rise_join k (note_key m e) (front ++ graces) (more ++ bar_key lengths m ∷ [])
+      (rise_join k (note_key m e) (prefix ++ graces) (more ++ bar_key lengths m ∷ [])
       (event_rises k m e.tick c e.flat.graces (before e.tick seats.0.tick))
       (events_rise (note_key m e) m _ (suc e.tick) false es from to seats.1 (note_below m e.tick)
       (class_below m m e.tick _ 0 0 Class.Note Class.Bar (omega arith) (λ is. within) (omega arith))))
@@ -132,7 +132,7 @@ module _ (keys : List ColumnKey) (lengths : List ℕ) (a b : ℕ) (places : All 
       rise_join k bar (events_columns m in_head d.events) (measures_columns lengths (m + 1) false ds)
       (events_rise k m 0 0 in_head d.events from (omega (arith, to)) drawn.0.seats (λ t any. (low t).0)
       (low (slice_index lengths m)).1)
-      (measures_rise bar (m + 1) false (standing_behind now (flats_of x.body)) xs ds (omega (arith, from))
+      (measures_rise bar (m + 1) false (staff_state_after now (flats_of x.body)) xs ds (omega (arith, from))
       (omega (arith, to)) drawn.1 (λ t. (late t Class.Change, late t Class.Bar)))
   measures_rise k m in_head now xs ds from to drawn low = absurd drawn
 

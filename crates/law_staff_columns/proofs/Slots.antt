@@ -30,10 +30,10 @@ use Rattle.mus_ink.specs.Signatures.{meter_if, meter_marks}
 use Rattle.mus_drawn.specs.declared.drawn.DrawnEvent.{DrawnEvent}
 use Rattle.mus_drawn.specs.declared.drawn.DrawnMeasure.{DrawnMeasure}
 use Rattle.mus_drawn.specs.declared.standing.StaffState.{StaffState}
-use Rattle.mus_drawn.specs.Drawn.{raise_of, standing_after, standing_behind}
+use Rattle.mus_drawn.specs.Drawn.{raise_of, standing_after, staff_state_after}
 use Rattle.mus_time.specs.Columns.{events_columns, has_old, measures_columns, note_key}
 use Rattle.mus_marks.specs.declared.events.WordRoom.{WordRoom}
-use Rattle.mus_marks.specs.Events.{change_part, event_marks, events_marks, graces_from, levels_behind, levels_in}
+use Rattle.mus_marks.specs.Events.{change_part, event_marks, events_marks, graces_from, levels_after, levels_in}
 use Rattle.mus_marks.specs.Events.{measures_marks, note_rank, words_marks}
 use Rattle.mus_marks.specs.Staff.{columns_part}
 use Rattle.{mus_marks.specs.Staff.meter_shown, law_staff_columns.proofs.Forms.{EventsDrawn, MeasuresDrawn}}
@@ -77,7 +77,7 @@ event_slots keys place m in_head before after e =
 abbrev pub events_slots : List ColumnKey → Option WordRoom → ℕ → Bool → ℕ → ℕ → List DrawnEvent → List Slot
 events_slots keys place m in_head group flags [] = []
 events_slots keys place m in_head group flags (e ∷ es) =
-    event_slots keys place m in_head (levels_in e.plan group flags) (levels_behind e.plan es) e
+    event_slots keys place m in_head (levels_in e.plan group flags) (levels_after e.plan es) e
     ++ events_slots keys place m false e.plan.group e.plan.flags es
 
 abbrev pub measures_slots : List ColumnKey → List ℕ → Option WordRoom → ℕ → Bool → List DrawnMeasure → List Slot
@@ -94,8 +94,8 @@ first_slots a first =
     if (a == 0) && has_features first then slot (key_at 0 0 Class.First 0) (bar_marks first) ∷ [] else []
 
 -- after the head
-abbrev pub slots_behind : List ColumnKey → List ℕ → Option WordRoom → ℕ → Bar → List DrawnMeasure → List Slot
-slots_behind keys lengths place a first ds = first_slots a first ++ measures_slots keys lengths place a true ds
+abbrev pub slots_after : List ColumnKey → List ℕ → Option WordRoom → ℕ → Bar → List DrawnMeasure → List Slot
+slots_after keys lengths place a first ds = first_slots a first ++ measures_slots keys lengths place a true ds
 
 -- ---- their keys are the columns of the voice
 one_key : (c : Bool) (s : Slot) → keys_of (if c then s ∷ [] else []) ≡ (if c then s.key ∷ [] else [])
@@ -122,7 +122,7 @@ module _ (keys : List ColumnKey) (place : Option WordRoom) where
     measures_keyed m in_head (d ∷ ds) = simp (map-append, append_assoc, events_keyed, measures_keyed (m + 1) false ds)
 
     pub slots_keyed : (a : ℕ) (first : Bar) (ds : List DrawnMeasure)
-        → keys_of (slots_behind keys lengths place a first ds)
+        → keys_of (slots_after keys lengths place a first ds)
         ≡ first_keys a first ++ measures_columns lengths a true ds
     slots_keyed a first ds = simp (map-append, one_key, measures_keyed)
 
@@ -199,7 +199,7 @@ module _ (keys : List ColumnKey) where
         ≡ laid keys (events_slots keys place m in_head group flags es)
     events_laid m in_head group flags now [] drawn = refl
     events_laid m in_head group flags now (e ∷ es) drawn =
-        let first = event_laid m in_head (levels_in e.plan group flags) (levels_behind e.plan es) e drawn.0.first in
+        let first = event_laid m in_head (levels_in e.plan group flags) (levels_after e.plan es) e drawn.0.first in
         simp (
           flat_map-append,
           first,
@@ -217,7 +217,7 @@ module _ (keys : List ColumnKey) where
             append-nil,
             drawn.0.first,
             events_laid m in_head 0 0 now d.events drawn.0.events,
-            measures_laid a b (m + 1) false (standing_behind now (flats_of x.body)) xs ds drawn.1,
+            measures_laid a b (m + 1) false (staff_state_after now (flats_of x.body)) xs ds drawn.1,
           )
       measures_laid a b m in_head now xs ds drawn = absurd drawn
 
@@ -225,11 +225,11 @@ module _ (keys : List ColumnKey) where
           (ds : List DrawnMeasure)
           → is_lower seat ≡ false → MeasuresDrawn keys a b a now xs (d ∷ ds)
           → columns_part keys lengths place a seat first (d ∷ ds)
-          ≡ laid keys (head_slot a d ∷ slots_behind keys lengths place a first (d ∷ ds))
+          ≡ laid keys (head_slot a d ∷ slots_after keys lengths place a first (d ∷ ds))
       unfolding columns_part
       part_laid a b seat first now [] d ds led drawn = absurd drawn
       part_laid a b seat first now (x ∷ xs) d ds led drawn =
-          let rest = measures_laid a b (a + 1) false (standing_behind now (flats_of x.body)) xs ds drawn.1 in
+          let rest = measures_laid a b (a + 1) false (staff_state_after now (flats_of x.body)) xs ds drawn.1 in
           simp (
             flat_map-append,
             append_assoc,

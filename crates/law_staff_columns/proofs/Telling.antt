@@ -36,9 +36,9 @@ use Rattle.mus_drawn.specs.declared.drawn.DrawnEvent.{DrawnEvent}
 use Rattle.mus_drawn.specs.declared.drawn.DrawnMeasure.{DrawnMeasure}
 use Rattle.mus_drawn.specs.declared.drawn.DrawnVoice.{DrawnVoice}
 use Rattle.mus_drawn.specs.declared.standing.StaffState.{StaffState}
-use Rattle.mus_drawn.specs.Drawn.{drawn_voice, raise_of, standing_after, standing_behind, standing_of}
+use Rattle.mus_drawn.specs.Drawn.{drawn_voice, raise_of, standing_after, staff_state_after, standing_of}
 use Rattle.mus_marks.specs.declared.events.WordRoom.{WordRoom}
-use Rattle.mus_marks.specs.Events.{levels_behind, levels_in, note_rank, words_marks}
+use Rattle.mus_marks.specs.Events.{levels_after, levels_in, note_rank, words_marks}
 use Rattle.mus_marks.specs.Staff.{bare_marks, columns_part, meter_shown, own_part, room_over, staff_bridges}
 use Rattle.mus_marks.specs.Staff.{staff_marks, staff_over, verses_on}
 use Rattle.mus_marks.specs.Tilt.{sloped_over, voice_tilted}
@@ -46,7 +46,7 @@ use Rattle.mus_marks.proofs.Inside.{AreAmong, among_right, here, voices_called}
 use Rattle.ps_heard.specs.declared.column.HeardColumn.{HeardColumn}
 use Rattle.ps_heard.specs.declared.column.HeardGlyph.{HeardGlyph}
 use Rattle.ps_heard.specs.declared.column.Role.{Role}
-use Rattle.law_voice_sound.proofs.Listening.{told_join}
+use Rattle.law_voice_sound.proofs.Listening.{known_join}
 use Rattle.law_voice_sound.specs.Columns.{bar_column, change_column, change_columns, chord_column, event_columns}
 use Rattle.law_voice_sound.specs.Columns.{heard_events, first_columns, grace_columns, last_event, last_through}
 use Rattle.law_voice_sound.specs.Columns.{heard_measures, state_shown, heard_system, tie_heights}
@@ -54,15 +54,15 @@ use Rattle.law_voice_sound.specs.Listened.{is_listed, columns_heard}
 use Rattle.law_voice_sound.specs.Noted.{bar_notes, change_signs, clef_notes, entry_notes, head_column_notes, head_notes}
 use Rattle.law_voice_sound.specs.Noted.{sign_notes}
 use Rattle.law_staff_columns.specs.Ranked.{ranked_columns, tie_ends_at}
-use Rattle.law_staff_columns.specs.Told.{MarksTellColumns, first_at}
-use Rattle.law_staff_columns.proofs.Columned.{column, ranks_told, slot_column, told_same}
-use Rattle.law_staff_columns.proofs.Drawings.{measures_behind, measures_front, voice_drawn}
+use Rattle.law_staff_columns.specs.Reported.{MarksTellColumns, first_at}
+use Rattle.law_staff_columns.proofs.Columned.{column, ranks_known, slot_column, known_same}
+use Rattle.law_staff_columns.proofs.Drawings.{measures_after, measures_prefix, voice_drawn}
 use Rattle.law_staff_columns.proofs.Placed.{Placed, all_placed, placed}
 use Rattle.law_staff_columns.proofs.Forms.{EventsDrawn, IsDrawn, MeasuresDrawn, drawn_notes, flats_in, ink_notes}
-use Rattle.law_staff_columns.proofs.Noting.{bar_told, change_told, grace_told, head_told, note_told, words_told}
+use Rattle.law_staff_columns.proofs.Noting.{bar_known, change_known, grace_known, head_known, note_known, words_known}
 use Rattle.law_staff_columns.proofs.Rising.{RiseFrom, columns_rise, ended_columns, head_least}
 use Rattle.law_staff_columns.proofs.Slots.{Slot, change_slots, event_slots, events_slots, first_slots, grace_slots}
-use Rattle.law_staff_columns.proofs.Slots.{head_slot, measures_slots, no_marks, part_laid, slot, slots_behind}
+use Rattle.law_staff_columns.proofs.Slots.{head_slot, measures_slots, no_marks, part_laid, slot, slots_after}
 use Rattle.law_staff_columns.proofs.Slots.{slots_keyed}
 use Rattle.law_staff_columns.proofs.Tied.{AllTied, ties_stand, tied_after}
 use Rattle.mus_time.specs.Columns as columns
@@ -71,10 +71,10 @@ use Rattle.mus_time.specs.Columns as columns
 abbrev is_headed : List HeardGlyph → Bool
 is_headed ns = list_any (λ n. is_listed n.role) ns
 
-quiet_told : (leads : Bool) (ns ms : List HeardGlyph) (ts us : List ℤ) (xs ys : List HeardColumn)
+quiet_known : (leads : Bool) (ns ms : List HeardGlyph) (ts us : List ℤ) (xs ys : List HeardColumn)
     → ns ≡ ms → is_headed ms ≡ false → columns_heard xs ≡ columns_heard ys
     → columns_heard (column leads ns ts ∷ xs) ≡ columns_heard (column leads ms us ∷ ys)
-quiet_told leads ns ms ts us xs ys e quiet more = rw (e, quiet, more) refl
+quiet_known leads ns ms ts us xs ys e quiet more = rw (e, quiet, more) refl
 
 quiet_join : (ns ms : List HeardGlyph) → is_headed ns ≡ false → is_headed ms ≡ false → is_headed (ns ++ ms) ≡ false
 quiet_join ns ms p q = simp (list_any-append, p, q)
@@ -103,23 +103,23 @@ module _ (keys : List ColumnKey) (place : Option WordRoom) (ties : ℕ → List 
   abbrev slot_columns : List Slot → List HeardColumn
   slot_columns ss = map (slot_column keys ties) ss
 
-  parts_told : (xs ys : List Slot) (us vs : List HeardColumn)
+  parts_known : (xs ys : List Slot) (us vs : List HeardColumn)
       → columns_heard (slot_columns xs) ≡ columns_heard us → columns_heard (slot_columns ys) ≡ columns_heard vs
       → columns_heard (slot_columns (xs ++ ys)) ≡ columns_heard (us ++ vs)
-  parts_told xs ys us vs p q = simp (map-append, told_join, p, q)
+  parts_known xs ys us vs p q = simp (map-append, known_join, p, q)
 
-  bar_column_told : (key : ColumnKey) (b : Bar)
+  bar_column_known : (key : ColumnKey) (b : Bar)
       → columns_heard (slot_columns (slot key (bar_marks b) ∷ [])) ≡ columns_heard (bar_column b ∷ [])
-  bar_column_told key b =
-      quiet_told false (drawn_notes (bar_marks b)) (bar_notes b) (ties (key_rank keys key)) [] [] [] (bar_told b)
+  bar_column_known key b =
+      quiet_known false (drawn_notes (bar_marks b)) (bar_notes b) (ties (key_rank keys key)) [] [] [] (bar_known b)
       (bar_quiet b) refl
 
   module _ (m : ℕ) where
-    change_column_told : (in_head : Bool) (now : StaffState) (e : DrawnEvent)
+    change_column_known : (in_head : Bool) (now : StaffState) (e : DrawnEvent)
         → IsDrawn now e
         → columns_heard (slot_columns (change_slots m in_head e)) ≡ columns_heard (change_columns in_head now e.flat)
-    change_column_told true now e is = refl
-    change_column_told false now e is = by (change_has_mark (has_old e) e.flat.event.changes) refl
+    change_column_known true now e is = refl
+    change_column_known false now e is = by (change_has_mark (has_old e) e.flat.event.changes) refl
       where
         marks : List LaneInk
         marks = change_marks e.clef e.old e.flat.event.changes
@@ -128,7 +128,7 @@ module _ (keys : List ColumnKey) (place : Option WordRoom) (ties : ℕ → List 
         notes = (change_column now e.flat).notes
 
         same : drawn_notes marks ≡ notes
-        same = rw (is.clef, is.old) (change_told (clef_at now.clef e.flat.event) now.key e.flat.event.changes)
+        same = rw (is.clef, is.old) (change_known (clef_at now.clef e.flat.event) now.key e.flat.event.changes)
 
         quiet : is_headed notes ≡ false
         quiet =
@@ -142,104 +142,104 @@ module _ (keys : List ColumnKey) (place : Option WordRoom) (ties : ℕ → List 
         by : (c : Bool) → change_has_mark (has_old e) e.flat.event.changes ≡ c
             → columns_heard (slot_columns (if c then slot key marks ∷ [] else []))
             ≡ columns_heard (change_column now e.flat ∷ [])
-        by true marked = quiet_told false (drawn_notes marks) notes (ties (key_rank keys key)) [] [] [] same quiet refl
+        by true marked = quiet_known false (drawn_notes marks) notes (ties (key_rank keys key)) [] [] [] same quiet refl
         by false marked =
             ap (λ ns. columns_heard (column false ns [] ∷ []))
             (ap drawn_notes (sym (no_marks e.clef e.old e.flat.event.changes marked)) ∙ same)
 
-    graces_told : (tick : ℕ) (c : Clef) (group : Group) (i : ℕ) (gs : List Event)
+    graces_known : (tick : ℕ) (c : Clef) (group : Group) (i : ℕ) (gs : List Event)
         → All (λ g. All (IsInReach c) g.heads) gs
         → columns_heard (slot_columns (grace_slots m tick c group i gs)) ≡ columns_heard (grace_columns c gs)
-    graces_told tick c group i [] reach = refl
-    graces_told tick c group i (g ∷ gs) reach =
-        quiet_told false (drawn_notes (grace_marks c group (i == 0) g))
+    graces_known tick c group i [] reach = refl
+    graces_known tick c group i (g ∷ gs) reach =
+        quiet_known false (drawn_notes (grace_marks c group (i == 0) g))
         (sign_notes c g.heads ++ head_notes Role.Grace c g.heads) (ties (key_rank keys (key_at m tick Class.Grace i)))
         []
         (slot_columns (grace_slots m tick c group (i + 1) gs)) (grace_columns c gs)
-        (grace_told c group (i == 0) g (All-head (λ g. All (IsInReach c) g.heads) g gs reach))
+        (grace_known c group (i == 0) g (All-head (λ g. All (IsInReach c) g.heads) g gs reach))
         (quiet_join (sign_notes c g.heads) _ (signs_quiet c g.heads) (graces_quiet c g.heads))
-        (graces_told tick c group (i + 1) gs (All-tail (λ g. All (IsInReach c) g.heads) g gs reach))
+        (graces_known tick c group (i + 1) gs (All-tail (λ g. All (IsInReach c) g.heads) g gs reach))
 
-    event_told : (in_head : Bool) (before after : ℕ) (now : StaffState) (prev : List Head) (e : DrawnEvent)
+    event_known : (in_head : Bool) (before after : ℕ) (now : StaffState) (prev : List Head) (e : DrawnEvent)
         → IsDrawn now e → ties (note_rank keys m e) ≡ tie_heights e.clef prev e.flat.event.heads
         → columns_heard (slot_columns (event_slots keys place m in_head before after e))
         ≡ columns_heard (change_columns in_head now e.flat ++ event_columns now prev e.flat)
-    event_told in_head before after now prev e is tied =
+    event_known in_head before after now prev e is tied =
         let f = e.flat in
-        let graces = graces_told e.tick e.clef (group_of e.clef f.graces f.slash) 0 f.graces is.graces in
+        let graces = graces_known e.tick e.clef (group_of e.clef f.graces f.slash) 0 f.graces is.graces in
         let own = note_marks e.clef (raise_of e.seat) f.event e.plan before after in
         let words = words_marks place (note_rank keys m e) f in
         let notes = flat_map-append (λ (d : LaneInk). ink_notes d.ink) own words
-        ∙ ap (λ t. drawn_notes own ++ t) (words_told place (note_rank keys m e) f)
+        ∙ ap (λ t. drawn_notes own ++ t) (words_known place (note_rank keys m e) f)
         ∙ append-nil (drawn_notes own)
-        ∙ note_told e.clef (raise_of e.seat) f.event e.plan before after is.signs is.shifts in
-        let chord = told_same false false _ _ _ _ [] [] refl notes tied refl in
+        ∙ note_known e.clef (raise_of e.seat) f.event e.plan before after is.signs is.shifts in
+        let chord = known_same false false _ _ _ _ [] [] refl notes tied refl in
         let columns = λ (c : Clef).
         change_columns in_head now f
         ++ (grace_columns c f.graces ++ chord_column Role.Head c f.event.heads (tie_heights c prev f.event.heads)
         ∷ []) in
         let here : columns_heard (slot_columns (event_slots keys place m in_head before after e)) ≡ columns_heard
         (columns e.clef) = simp
-        (map-append, append_assoc, told_join, change_column_told in_head now e is, graces, chord) in
+        (map-append, append_assoc, known_join, change_column_known in_head now e is, graces, chord) in
         here ∙ ap (λ c. columns_heard (columns c)) is.clef
 
   module _ (a b : ℕ) where
-    events_told : (m : ℕ) (in_head : Bool) (group flags : ℕ) (now : StaffState) (prev : List Head)
+    events_known : (m : ℕ) (in_head : Bool) (group flags : ℕ) (now : StaffState) (prev : List Head)
         (es : List DrawnEvent) (more : List Placed)
         → a ≤ m → m < b → EventsDrawn now es
         → AllTied keys a b ties prev (placed m es ++ more)
         → columns_heard (slot_columns (events_slots keys place m in_head group flags es))
         ≡ columns_heard (heard_events in_head now prev (flats_in es))
-    events_told m in_head group flags now prev [] more from to drawn tied = refl
-    events_told m in_head group flags now prev (e ∷ es) more from to drawn tied =
-        parts_told (event_slots keys place m in_head (levels_in e.plan group flags) (levels_behind e.plan es) e) _
+    events_known m in_head group flags now prev [] more from to drawn tied = refl
+    events_known m in_head group flags now prev (e ∷ es) more from to drawn tied =
+        parts_known (event_slots keys place m in_head (levels_in e.plan group flags) (levels_after e.plan es) e) _
         (change_columns in_head now e.flat ++ event_columns now prev e.flat) _
-        (event_told m in_head _ _ now prev e drawn.0 (tied.0 from to))
-        (events_told m false e.plan.group e.plan.flags (standing_after now e.flat.event.changes) e.flat.event.heads es
+        (event_known m in_head _ _ now prev e drawn.0 (tied.0 from to))
+        (events_known m false e.plan.group e.plan.flags (standing_after now e.flat.event.changes) e.flat.event.heads es
         more from to drawn.1 tied.1)
 
     -- some measures, before others
-    measures_told : (lengths : List ℕ) (m : ℕ) (in_head : Bool) (now : StaffState) (prev : List Head)
+    measures_known : (lengths : List ℕ) (m : ℕ) (in_head : Bool) (now : StaffState) (prev : List Head)
         (xs : List Measure) (ds more : List DrawnMeasure)
         → a ≤ m → m + length ds ≤ b → MeasuresDrawn keys a b m now xs ds
         → AllTied keys a b ties prev (all_placed m (ds ++ more))
         → columns_heard (slot_columns (measures_slots keys lengths place m in_head ds))
         ≡ columns_heard (heard_measures in_head now prev xs)
-    measures_told lengths m in_head now prev [] [] more from to drawn tied = refl
-    measures_told lengths m in_head now prev (x ∷ xs) (d ∷ ds) more from to drawn tied =
+    measures_known lengths m in_head now prev [] [] more from to drawn tied = refl
+    measures_known lengths m in_head now prev (x ∷ xs) (d ∷ ds) more from to drawn tied =
         let is = drawn.0 in
         let fs = flats_of x.body in
         let own = events_slots keys place m in_head 0 0 d.events in
         let bar = slot (bar_key lengths m) (bar_marks d.bar) ∷ [] in
-        let behind = all_placed (m + 1) (ds ++ more) in
-        parts_told (own ++ bar) (measures_slots keys lengths place (m + 1) false ds)
+        let following = all_placed (m + 1) (ds ++ more) in
+        parts_known (own ++ bar) (measures_slots keys lengths place (m + 1) false ds)
         (heard_events in_head now prev fs ++ bar_column x.bar ∷ []) _
-        (parts_told own bar (heard_events in_head now prev fs) (bar_column x.bar ∷ [])
-        (events_told m in_head 0 0 now prev d.events behind from (omega (arith, to)) is.events tied
+        (parts_known own bar (heard_events in_head now prev fs) (bar_column x.bar ∷ [])
+        (events_known m in_head 0 0 now prev d.events following from (omega (arith, to)) is.events tied
         ∙ ap (λ gs. columns_heard (heard_events in_head now prev gs)) is.flats)
-        (bar_column_told (bar_key lengths m) d.bar ∙ ap (λ b. columns_heard (bar_column b ∷ [])) is.bar))
-        (measures_told lengths (m + 1) false (standing_behind now fs) (last_event prev fs) xs ds more
+        (bar_column_known (bar_key lengths m) d.bar ∙ ap (λ b. columns_heard (bar_column b ∷ [])) is.bar))
+        (measures_known lengths (m + 1) false (staff_state_after now fs) (last_event prev fs) xs ds more
         (omega (arith, from)) (omega (arith, to)) drawn.1
-        (subst (λ gs. AllTied keys a b ties (last_event prev gs) behind) is.flats
-        (tied_after keys a b ties m prev d.events behind tied)))
-    measures_told lengths m in_head now prev xs ds more from to drawn tied = absurd drawn
+        (subst (λ gs. AllTied keys a b ties (last_event prev gs) following) is.flats
+        (tied_after keys a b ties m prev d.events following tied)))
+    measures_known lengths m in_head now prev xs ds more from to drawn tied = absurd drawn
 
     -- after the head of a system
-    behind_told : (lengths : List ℕ) (first : Bar) (now : StaffState) (prev : List Head) (xs : List Measure)
+    after_known : (lengths : List ℕ) (first : Bar) (now : StaffState) (prev : List Head) (xs : List Measure)
         (ds more : List DrawnMeasure)
         → a + length ds ≤ b → MeasuresDrawn keys a b a now xs ds
         → AllTied keys a b ties prev (all_placed a (ds ++ more))
-        → columns_heard (slot_columns (slots_behind keys lengths place a first ds))
+        → columns_heard (slot_columns (slots_after keys lengths place a first ds))
         ≡ columns_heard (first_columns (first_at a first) ++ heard_measures true now prev xs)
-    behind_told lengths first now prev xs ds more to drawn tied =
-        parts_told (first_slots a first) (measures_slots keys lengths place a true ds)
+    after_known lengths first now prev xs ds more to drawn tied =
+        parts_known (first_slots a first) (measures_slots keys lengths place a true ds)
         (first_columns (first_at a first)) (heard_measures true now prev xs)
-        (grind (arith, bar_column_told (key_at 0 0 Class.First 0) first))
-        (measures_told lengths a true now prev xs ds more (omega arith) to drawn tied)
+        (grind (arith, bar_column_known (key_at 0 0 Class.First 0) first))
+        (measures_known lengths a true now prev xs ds more (omega arith) to drawn tied)
 
 -- ---- a system
-system_told : (keys : List ColumnKey) (lengths : List ℕ) (place : Option WordRoom) (a b : ℕ) (seat : Seat) (first : Bar)
-    (now : StaffState) (prev : List Head) (xs : List Measure) (ds more : List DrawnMeasure)
+system_known : (keys : List ColumnKey) (lengths : List ℕ) (place : Option WordRoom) (a b : ℕ) (seat : Seat)
+    (first : Bar) (now : StaffState) (prev : List Head) (xs : List Measure) (ds more : List DrawnMeasure)
     → (bs : List Bridge) → is_lower seat ≡ false → 1 ≤ length xs → a + length ds ≤ b
     → MeasuresDrawn keys a b a now xs ds
     → AllTied keys a b (tie_ends_at (map (bridge_at keys) bs)) prev (all_placed a (ds ++ more))
@@ -248,30 +248,31 @@ system_told : (keys : List ColumnKey) (lengths : List ℕ) (place : Option WordR
     → columns_heard
     (ranked_columns (length keys) (columns_part keys lengths place a seat first ds ++ map (bridge_at keys) bs))
     ≡ columns_heard (heard_system (first_at a first) now prev xs)
-system_told keys lengths place a b seat first now prev [] ds more bs led some to drawn tied places among =
+system_known keys lengths place a b seat first now prev [] ds more bs led some to drawn tied places among =
     absurd (omega (arith, some))
-system_told keys lengths place a b seat first now prev (x ∷ xs) [] more bs led some to drawn tied places among =
+system_known keys lengths place a b seat first now prev (x ∷ xs) [] more bs led some to drawn tied places among =
     absurd drawn
-system_told keys lengths place a b seat first now prev (x ∷ xs) (d ∷ ds) more bs led some to drawn tied places among =
+system_known keys lengths place a b seat first now prev (x ∷ xs) (d ∷ ds) more bs led some to drawn tied places among =
     let bridges = map (bridge_at keys) bs in
     let own = first_keys a first ++ columns.measures_columns lengths a true (d ∷ ds) in
     let head = head_slot a d in
-    let ss = slots_behind keys lengths place a first (d ∷ ds) in
+    let ss = slots_after keys lengths place a first (d ∷ ds) in
     let keyed = sym (slots_keyed keys place lengths a first (d ∷ ds)) in
     let shown = state_shown now (flats_of x.body) in let is = drawn.0 in
     ap (λ t. columns_heard (ranked_columns (length keys) (t ++ bridges)))
     (part_laid keys place lengths a b seat first now (x ∷ xs) d ds led drawn)
-    ∙ ranks_told keys bs head ss (among (head_key a) (here (head_key a) own)) (head_least lengths a b keys places)
+    ∙ ranks_known keys bs head ss (among (head_key a) (here (head_key a) own)) (head_least lengths a b keys places)
     (subst (RiseFrom (head_key a)) keyed (columns_rise keys lengths a b places first now (x ∷ xs) (d ∷ ds) to drawn))
     (subst (λ ks. AreAmong ks keys) keyed (among_right (head_key a ∷ []) own keys among))
-    ∙ quiet_told true (drawn_notes head.drawn) (head_column_notes shown.clef shown.key.signs) (tie_ends_at bridges 0) []
+    ∙ quiet_known true (drawn_notes head.drawn) (head_column_notes shown.clef shown.key.signs) (tie_ends_at bridges 0)
+    []
     (map (slot_column keys (tie_ends_at bridges)) ss)
     (first_columns (first_at a first) ++ heard_measures true now prev (x ∷ xs))
-    (head_told d.opening.clef d.opening.key.signs (meter_shown a d.opening)
+    (head_known d.opening.clef d.opening.key.signs (meter_shown a d.opening)
     ∙ ap (λ c. head_column_notes c d.opening.key.signs) is.clef
     ∙ ap (λ k. head_column_notes shown.clef k.signs) is.key)
     (entries_quiet shown.clef shown.key.signs)
-    (behind_told keys place (tie_ends_at bridges) a b lengths first now prev (x ∷ xs) (d ∷ ds) more to drawn tied)
+    (after_known keys place (tie_ends_at bridges) a b lengths first now prev (x ∷ xs) (d ∷ ds) more to drawn tied)
 
 -- the marks of one voice
 alone_marks : (keys : List ColumnKey) (lengths : List ℕ) (a b : ℕ) (w : DrawnVoice)
@@ -288,9 +289,9 @@ alone_marks keys lengths a b w = (
   refl,
 )
 
-pub staff_told : MarksTellColumns
+pub staff_known : MarksTellColumns
 unfolding drawn_voice
-staff_told s v keys at a b good has alone rise within are =
+staff_known s v keys at a b good has alone rise within are =
     let lengths = (timeline_of s).lengths in
     let d = drawn_voice v in
     let w = voice_tilted keys at a b d in
@@ -312,9 +313,9 @@ staff_told s v keys at a b good has alone rise within are =
     ∙ sym (ap (λ ks. head_key a ∷ first_keys a v.first ++ ks)
     (ended_columns lengths a b (sloped_over keys at a (slice_range d.measures a b)) d)) in
     ap (λ t. columns_heard (ranked_columns (length keys) t)) marks.1
-    ∙ system_told keys lengths marks.0 a b v.seat v.first _ prev (take n xs) (take n ds) (drop n ds)
+    ∙ system_known keys lengths marks.0 a b v.seat v.first _ prev (take n xs) (take n ds) (drop n ds)
     (flat_map (bridges_of lengths a b) (w ∷ [])) (ap is_lower alone)
     (omega (arith, long, rise, within, length-drop a v.measures, length-take n xs))
     (omega (arith, rise, length-take n ds))
-    (measures_front keys a b n a _ xs ds (measures_behind keys a b a 0 a now v.measures w.measures (omega arith) drawn))
+    (measures_prefix keys a b n a _ xs ds (measures_after keys a b a 0 a now v.measures w.measures (omega arith) drawn))
     tied places (subst (λ ks. AreAmong ks keys) same called)

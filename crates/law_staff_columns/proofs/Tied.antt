@@ -30,13 +30,13 @@ use Rattle.mus_drawn.specs.declared.drawn.DrawnEvent.{DrawnEvent}
 use Rattle.mus_drawn.specs.declared.drawn.DrawnMeasure.{DrawnMeasure}
 use Rattle.mus_drawn.specs.declared.drawn.DrawnVoice.{DrawnVoice}
 use Rattle.mus_drawn.specs.declared.standing.StaffState.{StaffState}
-use Rattle.mus_drawn.specs.Drawn.{standing_behind, standing_of}
+use Rattle.mus_drawn.specs.Drawn.{staff_state_after, standing_of}
 use Rattle.mus_bridges.specs.Arcs.{piece_between}
 use Rattle.mus_marks.specs.Staff.{staff_bridges}
 use Rattle.law_voice_sound.specs.Columns.{last_event, last_through, tie_heights}
 use Rattle.law_staff_columns.specs.Ranked.{tie_ends_at}
 use Rattle.law_staff_columns.proofs.Forms.{MeasuresDrawn, flats_in}
-use Rattle.law_staff_columns.proofs.Bridged.{arc_ends, bridges_told, ends, is_tie_bulge, tie_to, ties_elsewhere}
+use Rattle.law_staff_columns.proofs.Bridged.{arc_ends, bridges_known, ends, is_tie_bulge, tie_to, ties_elsewhere}
 use Rattle.law_staff_columns.proofs.Bridged.{ties_here}
 use Rattle.law_staff_columns.proofs.Placed.{GoFrom, IsPlaced, Placed, all_placed}
 use Rattle.law_staff_columns.proofs.Placed.{heads, key, measures_go, measures_scored, placed, scored}
@@ -66,7 +66,7 @@ module _ (keys : List ColumnKey) (a b : ℕ) where
   system_tied ties (suc k) m n prev now (x ∷ xs) (d ∷ ds) at drawn tied =
       subst (λ fs. AllTied ties (last_through (last_event prev fs) (take k xs)) (all_placed n (drop k ds)))
       drawn.0.flats
-      (system_tied ties k (m + 1) n _ (standing_behind now (flats_of x.body)) xs ds (omega (arith, at)) drawn.1
+      (system_tied ties k (m + 1) n _ (staff_state_after now (flats_of x.body)) xs ds (omega (arith, at)) drawn.1
       (tied_after ties m prev d.events (all_placed (m + 1) ds) tied))
   system_tied ties (suc k) m n prev now xs ds at drawn tied = absurd drawn
 
@@ -82,8 +82,8 @@ module _ (keys : List ColumnKey) (lengths : List ℕ) (a b : ℕ) (ds : List Dra
   abbrev rank : Placed → ℕ
   rank n = key_rank keys (key n)
 
-  abbrev told : ℕ → Arc → List ℤ
-  told r = arc_ends keys r lengths a b ds
+  abbrev known : ℕ → Arc → List ℤ
+  known r = arc_ends keys r lengths a b ds
 
   abbrev Differ : Placed → Placed → Type 0
   Differ e n = (is_below (key e) (key n) ≡ true) ⊎ (is_below (key n) (key e) ≡ true)
@@ -114,10 +114,10 @@ module _ (keys : List ColumnKey) (lengths : List ℕ) (a b : ℕ) (ds : List Dra
 
   beside : (e p n : Placed)
       → IsEvent e → IsEvent p → IsEvent n → IsIn e → Differ e n
-      → flat_map (told (rank e)) (ties_from (scored p) 0 (heads p) (scored n)) ≡ []
+      → flat_map (known (rank e)) (ties_from (scored p) 0 (heads p) (scored n)) ≡ []
   unfolding piece_of arc_mark tie_mark
   beside e p n e_is p_is n_is within differ =
-      ties_elsewhere (told (rank e)) (scored p) (scored n) 0 (heads p)
+      ties_elsewhere (known (rank e)) (scored p) (scored n) 0 (heads p)
       (λ i. by i (nat_lt p.measure b && nat_le a n.measure) refl)
     where
       by : (i : ℕ) (some : Bool) → (nat_lt p.measure b && nat_le a n.measure) ≡ some
@@ -135,12 +135,12 @@ module _ (keys : List ColumnKey) (lengths : List ℕ) (a b : ℕ) (ds : List Dra
           ) refl
 
   into : (p n : Placed) → IsEvent p → IsEvent n → IsIn n → p.measure ≤ n.measure
-      → flat_map (told (rank n)) (ties_from (scored p) 0 (heads p) (scored n))
+      → flat_map (known (rank n)) (ties_from (scored p) 0 (heads p) (scored n))
       ≡ tie_heights n.event.clef (heads p) (heads n)
   unfolding piece_of arc_mark tie_mark
   into p n p_is n_is within order =
       let up = bulges_up p.event.plan in let to = within.1 in
-      ties_here (told (rank n)) (scored p) (scored n) up 0 n.event.clef (heads p) n_is.near (λ i k h same get.
+      ties_here (known (rank n)) (scored p) (scored n) up 0 n.event.clef (heads p) n_is.near (λ i k h same get.
       let at : slice_get (heads p) k ≡ Some h = subst (λ j. slice_get (heads p) j ≡ Some h) (omega (arith, same)) get in
       rw (
         lt-ltb p.measure b (omega (arith, order, to)),
@@ -154,51 +154,51 @@ module _ (keys : List ColumnKey) (lengths : List ℕ) (a b : ℕ) (ds : List Dra
       ) refl)
 
   -- the ties after an event end after it
-  behind : (e p : Placed) (ns : List Placed)
+  following : (e p : Placed) (ns : List Placed)
       → IsEvent e → IsEvent p → IsIn e
       → ((k : ColumnKey) → is_below (key p) k ≡ true → is_below (key e) k ≡ true)
       → GoFrom keys a b ds (key p) ns
-      → flat_map (told (rank e)) (ties_of (map scored (p ∷ ns))) ≡ []
-  behind e p [] e_is p_is within later go = refl
-  behind e p (n ∷ ns) e_is p_is within later go =
+      → flat_map (known (rank e)) (ties_of (map scored (p ∷ ns))) ≡ []
+  following e p [] e_is p_is within later go = refl
+  following e p (n ∷ ns) e_is p_is within later go =
       let below = later (key n) go.0.1 in
-      flat_map-append (told (rank e)) (ties_from (scored p) 0 (heads p) (scored n)) (ties_of (map scored (n ∷ ns)))
+      flat_map-append (known (rank e)) (ties_from (scored p) 0 (heads p) (scored n)) (ties_of (map scored (n ∷ ns)))
       ∙ rw (
         beside e p n e_is p_is go.0.0 within (inl below),
-        behind e n ns e_is go.0.0 within (λ k. below_through (key e) (key n) k below) go.1,
+        following e n ns e_is go.0.0 within (λ k. below_through (key e) (key n) k below) go.1,
       ) refl
 
   module _ (ties : ℕ → List ℤ) where
-    tied_behind : (p : Placed) (ns : List Placed) → IsEvent p → GoFrom keys a b ds (key p) ns
+    tied_from : (p : Placed) (ns : List Placed) → IsEvent p → GoFrom keys a b ds (key p) ns
         → ((e : Placed) → IsEvent e → IsIn e → is_below (key p) (key e) ≡ true
-        → ties (rank e) ≡ flat_map (told (rank e)) (ties_of (map scored (p ∷ ns))))
+        → ties (rank e) ≡ flat_map (known (rank e)) (ties_of (map scored (p ∷ ns))))
         → AllTied keys a b ties (heads p) ns
-    tied_behind p [] p_is go are = tt
-    tied_behind p (n ∷ ns) p_is go are =
+    tied_from p [] p_is go are = tt
+    tied_from p (n ∷ ns) p_is go are =
         let first = ties_from (scored p) 0 (heads p) (scored n) in
         let more = ties_of (map scored (n ∷ ns)) in
         let below = go.0.1 in
         let n_is = go.0.0 in (
           λ from to.
-              are n n_is (from, to) below ∙ flat_map-append (told (rank n)) first more
+              are n n_is (from, to) below ∙ flat_map-append (known (rank n)) first more
               ∙ rw (
                 into p n p_is n_is (from, to) (in_order (key p) (key n) below),
-                behind n n ns n_is n_is (from, to) (λ k h. h) go.1,
+                following n n ns n_is n_is (from, to) (λ k h. h) go.1,
               ) (append-nil _),
-          tied_behind n ns n_is go.1 (λ e e_is within later.
+          tied_from n ns n_is go.1 (λ e e_is within later.
               are e e_is within (below_through (key p) (key n) (key e) below later)
-              ∙ flat_map-append (told (rank e)) first more
+              ∙ flat_map-append (known (rank e)) first more
               ∙ rw (beside e p n e_is p_is n_is within (inr later)) refl),
         )
 
     all_tied : (ns : List Placed)
         → GoFrom keys a b ds (head_key 0) ns
-        → ((r : ℕ) → ties r ≡ flat_map (told r) (ties_of (map scored ns)))
+        → ((r : ℕ) → ties r ≡ flat_map (known r) (ties_of (map scored ns)))
         → AllTied keys a b ties [] ns
     all_tied [] go are = tt
     all_tied (n ∷ ns) go are = (
-      λ from to. are (rank n) ∙ behind n n ns go.0.0 go.0.0 (from, to) (λ k h. h) go.1,
-      tied_behind n ns go.0.0 go.1 (λ e e_is within lower. are (rank e)),
+      λ from to. are (rank n) ∙ following n n ns go.0.0 go.0.0 (from, to) (λ k h. h) go.1,
+      tied_from n ns go.0.0 go.1 (λ e e_is within lower. are (rank e)),
     )
 
 -- those of a voice as it is drawn, from measure a on
@@ -218,4 +218,4 @@ ties_stand s v keys a b w arcs places drawn =
     ∙ ap ties_of (sym (measures_scored keys a b 0 (standing_of v) v.measures ds drawn)) in
     system_tied keys a b ties a 0 a [] (standing_of v) v.measures ds (omega arith) drawn
     (all_tied keys lengths a b ds places ties (all_placed 0 ds) go
-    (λ r. bridges_told keys r lengths a b w ∙ ap (flat_map (arc_ends keys r lengths a b ds)) own))
+    (λ r. bridges_known keys r lengths a b w ∙ ap (flat_map (arc_ends keys r lengths a b ds)) own))

@@ -1,2 +1,2 @@
 pub mod Ranked
-pub mod Told
+pub mod Reported

@@ -27,9 +27,9 @@ abbrev pub rank_column : List Laid → ℕ → HeardColumn
 rank_column all r = record { leads = r == 0; notes = notes_at all r; ties = tie_ends_at all r }
 
 -- this number of columns, the first of which has rank r
-abbrev pub columns_behind : List Laid → ℕ → ℕ → List HeardColumn
-columns_behind all r zero = []
-columns_behind all r (suc n) = rank_column all r ∷ columns_behind all (suc r) n
+abbrev pub columns_after : List Laid → ℕ → ℕ → List HeardColumn
+columns_after all r zero = []
+columns_after all r (suc n) = rank_column all r ∷ columns_after all (suc r) n
 
 abbrev pub ranked_columns : ℕ → List Laid → List HeardColumn
-ranked_columns n all = columns_behind all 0 n
+ranked_columns n all = columns_after all 0 n

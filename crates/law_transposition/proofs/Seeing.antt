@@ -19,7 +19,7 @@ use Rattle.mus_transpose.specs.Moved.{all_pass, all_true, body_may, changed_flat
 use Rattle.mus_transpose.specs.Moved.{moved_key, key_may, measure_by, moved_head, passing_step}
 use Rattle.mus_transpose.proofs.Changed.{Keeps, all_keep, bodies_unchanged, flats_changed}
 use Rattle.mus_drawn.specs.declared.standing.StaffState.{StaffState}
-use Rattle.mus_drawn.specs.Drawn.{standing_after, standing_behind}
+use Rattle.mus_drawn.specs.Drawn.{standing_after, staff_state_after}
 use Rattle.mus_drawn.specs.Sounds.{Seen, all_heads, grace_heads, seen, seen_from, seen_in}
 use Rattle.law_transposition.proofs.Reaching.{Holds, Passed}
 
@@ -43,17 +43,17 @@ key_after : (m : Move) (new : Option Key) (key : Key)
 key_after m None key = refl
 key_after m (Some new) key = refl
 
-behind_moved : (m : Move) (now : StaffState) (fs : List Flat)
-    → standing_behind (moved_standing m now) (map (flat_by m) fs) ≡ moved_standing m (standing_behind now fs)
-behind_moved m now [] = refl
-behind_moved m now (f ∷ fs) =
+after_moved : (m : Move) (now : StaffState) (fs : List Flat)
+    → staff_state_after (moved_standing m now) (map (flat_by m) fs) ≡ moved_standing m (staff_state_after now fs)
+after_moved m now [] = refl
+after_moved m now (f ∷ fs) =
     let changes = f.event.changes in
     ap (λ (k : Key).
-    standing_behind
+    staff_state_after
     (record { clef = unwrap_or changes.clef now.clef; key = k; meter = unwrap_or changes.meter now.meter })
     (map (flat_by m) fs))
     (key_after m changes.key now.key)
-    ∙ behind_moved m (standing_after now changes) fs
+    ∙ after_moved m (standing_after now changes) fs
 
 flat_moved : {A : Type 0} (m : Move) (f : A → List Head) (g : A → A)
     → ((x : A) → f (g x) ≡ map (moved_head m) (f x)) → (xs : List A)
@@ -70,28 +70,28 @@ heads_moved m f =
     ap (λ hs. hs ++ map (moved_head m) f.event.heads) (graces_moved m f)
     ∙ sym (map-append (moved_head m) (grace_heads f) f.event.heads)
 
-seen_moved : (m : Move) (now : StaffState) (front : List Flat) (f : Flat)
-    → seen (moved_standing m now) (map (flat_by m) front) (flat_by m f) ≡ moved_seen m (seen now front f)
-seen_moved m now front f =
-    let said : flat_map all_heads (map (flat_by m) front) ++ grace_heads (flat_by m f)
-    ≡ map (moved_head m) (flat_map all_heads front ++ grace_heads f) =
-    (λ i. flat_moved m all_heads (flat_by m) (heads_moved m) front i ++ graces_moved m f i)
-    ∙ sym (map-append (moved_head m) (flat_map all_heads front) (grace_heads f)) in
-    let here : standing_behind (moved_standing m now) (map (flat_by m) front ++ flat_by m f ∷ [])
-    ≡ moved_standing m (standing_behind now (front ++ f ∷ [])) =
-    ap (λ fs. standing_behind (moved_standing m now) fs) (sym (map-append (flat_by m) front (f ∷ [])))
-    ∙ behind_moved m now (front ++ f ∷ []) in
+seen_moved : (m : Move) (now : StaffState) (prefix : List Flat) (f : Flat)
+    → seen (moved_standing m now) (map (flat_by m) prefix) (flat_by m f) ≡ moved_seen m (seen now prefix f)
+seen_moved m now prefix f =
+    let said : flat_map all_heads (map (flat_by m) prefix) ++ grace_heads (flat_by m f)
+    ≡ map (moved_head m) (flat_map all_heads prefix ++ grace_heads f) =
+    (λ i. flat_moved m all_heads (flat_by m) (heads_moved m) prefix i ++ graces_moved m f i)
+    ∙ sym (map-append (moved_head m) (flat_map all_heads prefix) (grace_heads f)) in
+    let here : staff_state_after (moved_standing m now) (map (flat_by m) prefix ++ flat_by m f ∷ [])
+    ≡ moved_standing m (staff_state_after now (prefix ++ f ∷ [])) =
+    ap (λ fs. staff_state_after (moved_standing m now) fs) (sym (map-append (flat_by m) prefix (f ∷ [])))
+    ∙ after_moved m now (prefix ++ f ∷ []) in
     λ i. record { id = f.event.id; heads = map (moved_head m) f.event.heads; said = said i; signs = (here i).key.signs }
 
-seen_from_moved : (m : Move) (now : StaffState) (front fs : List Flat)
-    → seen_from (moved_standing m now) (map (flat_by m) front) (map (flat_by m) fs)
-    ≡ map (moved_seen m) (seen_from now front fs)
-seen_from_moved m now front [] = refl
-seen_from_moved m now front (f ∷ fs) =
+seen_from_moved : (m : Move) (now : StaffState) (prefix fs : List Flat)
+    → seen_from (moved_standing m now) (map (flat_by m) prefix) (map (flat_by m) fs)
+    ≡ map (moved_seen m) (seen_from now prefix fs)
+seen_from_moved m now prefix [] = refl
+seen_from_moved m now prefix (f ∷ fs) =
     (λ i.
-    seen_moved m now front f i
-    ∷ seen_from (moved_standing m now) (sym (map-append (flat_by m) front (f ∷ [])) i) (map (flat_by m) fs))
-    ∙ ap (λ es. moved_seen m (seen now front f) ∷ es) (seen_from_moved m now (front ++ f ∷ []) fs)
+    seen_moved m now prefix f i
+    ∷ seen_from (moved_standing m now) (sym (map-append (flat_by m) prefix (f ∷ [])) i) (map (flat_by m) fs))
+    ∙ ap (λ es. moved_seen m (seen now prefix f) ∷ es) (seen_from_moved m now (prefix ++ f ∷ []) fs)
 
 pub seen_in_moved : (m : Move) (now : StaffState) (ms : List Measure)
     → seen_in (moved_standing m now) (map (measure_by m) ms) ≡ map (moved_seen m) (seen_in now ms)
@@ -100,10 +100,10 @@ seen_in_moved m now (x ∷ ms) =
     let fs = flats_of x.body in let others = map (measure_by m) ms in
     (λ i.
     let gs = flats_changed (event_by m) (λ e. refl) x.body i in
-    seen_from (moved_standing m now) [] gs ++ seen_in (standing_behind (moved_standing m now) gs) others)
-    ∙ (λ i. seen_from_moved m now [] fs i ++ seen_in (behind_moved m now fs i) others)
-    ∙ ap (λ es. map (moved_seen m) (seen_from now [] fs) ++ es) (seen_in_moved m (standing_behind now fs) ms)
-    ∙ sym (map-append (moved_seen m) (seen_from now [] fs) (seen_in (standing_behind now fs) ms))
+    seen_from (moved_standing m now) [] gs ++ seen_in (staff_state_after (moved_standing m now) gs) others)
+    ∙ (λ i. seen_from_moved m now [] fs i ++ seen_in (after_moved m now fs i) others)
+    ∙ ap (λ es. map (moved_seen m) (seen_from now [] fs) ++ es) (seen_in_moved m (staff_state_after now fs) ms)
+    ∙ sym (map-append (moved_seen m) (seen_from now [] fs) (seen_in (staff_state_after now fs) ms))
 
 -- ---- if each event of a tree passes a test, so do the events in a row, and the graces before them
 pub joined : {A : Type 0} (P : A → Type 0) (xs ys : List A)
@@ -201,28 +201,28 @@ key_change : (m : Move) (new : Option Key) (key : Key)
 key_change m None key e h = h
 key_change m (Some new) key e h = e
 
-key_behind : (m : Move) (now : StaffState) (fs : List Flat)
-    → key_may m now.key ≡ true → AllByRecursion (FlatMay m) fs → key_may m (standing_behind now fs).key ≡ true
-key_behind m now [] key all = key
-key_behind m now (f ∷ fs) key all =
-    key_behind m (standing_after now f.event.changes) fs
+key_left_after : (m : Move) (now : StaffState) (fs : List Flat)
+    → key_may m now.key ≡ true → AllByRecursion (FlatMay m) fs → key_may m (staff_state_after now fs).key ≡ true
+key_left_after m now [] key all = key
+key_left_after m now (f ∷ fs) key all =
+    key_left_after m (standing_after now f.event.changes) fs
     (key_change m f.event.changes.key now.key (event_parts m f.event all.0.event).1 key) all.1
 
-seen_from_may : (m : Move) (now : StaffState) (front fs : List Flat)
-    → key_may m now.key ≡ true → AllByRecursion (FlatMay m) front → AllByRecursion (FlatMay m) fs
-    → AllByRecursion (SeenMay m) (seen_from now front fs)
-seen_from_may m now front [] key before all = tt {0}
-seen_from_may m now front (f ∷ fs) key before all =
-    let behind : AllByRecursion (FlatMay m) (front ++ f ∷ []) =
-    joined (FlatMay m) front (f ∷ []) before (all.0, tt {0}) in
-    let here : SeenMay m (seen now front f) = record {
+seen_from_may : (m : Move) (now : StaffState) (prefix fs : List Flat)
+    → key_may m now.key ≡ true → AllByRecursion (FlatMay m) prefix → AllByRecursion (FlatMay m) fs
+    → AllByRecursion (SeenMay m) (seen_from now prefix fs)
+seen_from_may m now prefix [] key before all = tt {0}
+seen_from_may m now prefix (f ∷ fs) key before all =
+    let following : AllByRecursion (FlatMay m) (prefix ++ f ∷ []) =
+    joined (FlatMay m) prefix (f ∷ []) before (all.0, tt {0}) in
+    let here : SeenMay m (seen now prefix f) = record {
       heads = (event_parts m f.event all.0.event).0;
       said =
-          joined (Passed (head_moves m)) (flat_map all_heads front) (grace_heads f)
-          (all_flat m all_heads (FlatMay m) (heads_may m) front before) (graces_may m f all.0);
-      key = key_behind m now (front ++ f ∷ []) key behind;
+          joined (Passed (head_moves m)) (flat_map all_heads prefix) (grace_heads f)
+          (all_flat m all_heads (FlatMay m) (heads_may m) prefix before) (graces_may m f all.0);
+      key = key_left_after m now (prefix ++ f ∷ []) key following;
     } in
-    (here, seen_from_may m now (front ++ f ∷ []) fs key behind all.1)
+    (here, seen_from_may m now (prefix ++ f ∷ []) fs key following all.1)
 
 pub seen_in_may : (m : Move) (now : StaffState) (ms : List Measure)
     → key_may m now.key ≡ true → list_all (λ x. body_may m x.body) ms ≡ true
@@ -232,6 +232,6 @@ seen_in_may m now (x ∷ ms) key may =
     let fs = flats_of x.body in
     let parts = and_parts (body_may m x.body) (list_all (λ y. body_may m y.body) ms) may in
     let all = flats_may m x.body parts.0 in
-    joined (SeenMay m) (seen_from now [] fs) (seen_in (standing_behind now fs) ms)
+    joined (SeenMay m) (seen_from now [] fs) (seen_in (staff_state_after now fs) ms)
     (seen_from_may m now [] fs key (tt {0}) all)
-    (seen_in_may m (standing_behind now fs) ms (key_behind m now fs key all) parts.1)
+    (seen_in_may m (staff_state_after now fs) ms (key_left_after m now fs key all) parts.1)

@@ -94,9 +94,9 @@ head_higher m spread e earlier h tied tied' move may before one both =
 sounds_higher : (m : Move) (spread : Spread) (before : List Seen) (e : Seen)
     → IsMove m → AllByRecursion (SeenMay m) before → SeenMay m e
     → SoundsHigher m (sounds_as spread before e) (sounds_as spread (map (moved_seen m) before) (moved_seen m e))
-sounds_higher m spread [] e move front may earlier h before one =
+sounds_higher m spread [] e move prefix may earlier h before one =
     head_higher m spread e earlier h None None move may before one neither
-sounds_higher m spread (d ∷ ds) e move front may earlier h before one =
+sounds_higher m spread (d ∷ ds) e move prefix may earlier h before one =
     let f = sounds_as spread ds d in
     let g = sounds_as spread (map (moved_seen m) ds) (moved_seen m d) in
     let tied = tied_sound f h.pitch [] d.heads in
@@ -106,7 +106,8 @@ sounds_higher m spread (d ∷ ds) e move front may earlier h before one =
     (subst (λ b. Both (Higher m h.pitch) (comes_tied tied h.pitch earlier) (cond b None tied'))
     (sym (earlier_kept m h.pitch earlier))
     (untied (list_any (has_pitch h.pitch) earlier)
-    (tied_higher m f g h.pitch [] d.heads (sounds_higher m spread ds d move front.1 front.0) (tt {0}) front.0.heads)))
+    (tied_higher m f g h.pitch [] d.heads (sounds_higher m spread ds d move prefix.1 prefix.0) (tt {0})
+    prefix.0.heads)))
 
 -- ---- lists of heads
 abbrev AllHigher : Move → List Sound → List Sound → Type 0
@@ -144,14 +145,15 @@ events_higher : (m : Move) (voice : ℕ) (spread : Spread) (before es : List See
     → IsMove m → AllByRecursion (SeenMay m) before → AllByRecursion (SeenMay m) es
     → AllHigher m (event_sounds voice spread before es)
     (event_sounds voice spread (map (moved_seen m) before) (map (moved_seen m) es))
-events_higher m voice spread before [] move front may = tt {0}
-events_higher m voice spread before (e ∷ es) move front may =
+events_higher m voice spread before [] move prefix may = tt {0}
+events_higher m voice spread before (e ∷ es) move prefix may =
     let f = sounds_as spread before e in let g = sounds_as spread (map (moved_seen m) before) (moved_seen m e) in
     all_joined m (head_sounds f voice e.id 0 [] e.heads) (event_sounds voice spread (e ∷ before) es)
     (head_sounds g voice e.id 0 [] (map (moved_head m) e.heads))
     (event_sounds voice spread (map (moved_seen m) (e ∷ before)) (map (moved_seen m) es))
-    (heads_higher m f g voice e.id 0 [] e.heads (sounds_higher m spread before e move front may.0) (tt {0}) may.0.heads)
-    (events_higher m voice spread (e ∷ before) es move (may.0, front) may.1)
+    (heads_higher m f g voice e.id 0 [] e.heads (sounds_higher m spread before e move prefix may.0) (tt {0})
+    may.0.heads)
+    (events_higher m voice spread (e ∷ before) es move (may.0, prefix) may.1)
 
 voices_higher : (m : Move) (i : ℕ) (spread : Spread) (vs : List Voice)
     → IsMove m → list_all (voice_may m) vs ≡ true

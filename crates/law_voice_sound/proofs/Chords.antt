@@ -73,14 +73,14 @@ none_at c h (g ∷ gs) ns near reach e none =
 abbrev pub SignsRead : Clef → List HeardGlyph → List Head → Type 0
 SignsRead c notes hs = AllByRecursion (λ h. sign_of_glyph (dy_of c h) notes ≡ h.sign) hs
 
-read_behind : (c : Clef) (h : Head) (xs ns : List HeardGlyph) (gs : List Head)
+read_after : (c : Clef) (h : Head) (xs ns : List HeardGlyph) (gs : List Head)
     → IsInReach c h → AllReach c gs → list_any (has_pitch h.pitch) gs ≡ false → SignsRead c (xs ++ ns) gs
     → SignsRead c ((sign_note (dy_of c h) h.sign ++ xs) ++ ns) gs
-read_behind c h xs ns [] near reach e read = tt {0}
-read_behind c h xs ns (g ∷ gs) near reach e read =
+read_after c h xs ns [] near reach e read = tt {0}
+read_after c h xs ns (g ∷ gs) near reach e read =
     let parts = or_parts (has_pitch h.pitch g) (list_any (has_pitch h.pitch) gs) e in (
       skip_sign (dy_of c g) (dy_of c h) h.sign xs ns (heights_apart c h g near reach.0 parts.0) ∙ read.0,
-      read_behind c h xs ns gs near reach.1 parts.1 read.1,
+      read_after c h xs ns gs near reach.1 parts.1 read.1,
     )
 
 pub signs_read : (c : Clef) (hs : List Head) (ns : List HeardGlyph)
@@ -89,7 +89,7 @@ pub signs_read : (c : Clef) (hs : List Head) (ns : List HeardGlyph)
 signs_read c [] ns none reach apart = tt {0}
 signs_read c (h ∷ hs) ns none reach apart = (
   own_sign (dy_of c h) h.sign (sign_notes c hs) ns (none_at c h hs ns reach.0 reach.1 apart.0 (none (dy_of c h))),
-  read_behind c h (sign_notes c hs) ns hs reach.0 reach.1 apart.0 (signs_read c hs ns none reach.1 apart.1),
+  read_after c h (sign_notes c hs) ns hs reach.0 reach.1 apart.0 (signs_read c hs ns none reach.1 apart.1),
 )
 
 -- ---- no head has the letter and the octave of one before it

@@ -27,7 +27,7 @@ use Rattle.ps_heard.specs.declared.column.HeardGlyph.{HeardGlyph}
 use Rattle.ps_heard.specs.declared.column.Role.{Role}
 use Rattle.ps_heard.specs.Ear.{column_closed, hear_column}
 use Rattle.ps_heard.specs.Roles.{pitch_at}
-use Rattle.ps_heard.specs.Hearing.{clef_behind, entries, first_there, gives_key, head_of_glyph, heads_from}
+use Rattle.ps_heard.specs.Hearing.{clef_after, entries, first_there, gives_key, head_of_glyph, heads_from}
 use Rattle.ps_heard.specs.Hearing.{heard_of_glyph, is_head, last_or, said_with_column, said_with, sign_of_glyph}
 use Rattle.ps_heard.specs.Hearing.{tied_from}
 use Rattle.law_voice_sound.specs.Clear.{DistinctPitches}
@@ -68,7 +68,7 @@ pub record Hears (ear : Listener) (clef : Clef) (signs : List Sign) (said : List
 pub column_law : {ear : Listener} {c : Clef} {signs : List Sign} {said : List Head} {before : List score.AlteredHead}
     {all : List page.Heard} (spread : Spread) (col : HeardColumn) (c' : Clef) (signs' key : List Sign)
     (said' : List Head) (before' : List score.AlteredHead) (all' heads : List page.Heard)
-    → Hears ear c signs said before all → clef_behind c col.notes ≡ c'
+    → Hears ear c signs said before all → clef_after c col.notes ≡ c'
     → (if gives_key col.leads col.notes then entries c' col.notes else ear.key.signs) ≡ key → SameKey key signs'
     → said_with_column c' col (map shown_head said) col.notes ≡ map shown_head said'
     → heads_from spread col c' key ear.before (map shown_head said) col.notes ≡ heads
@@ -78,12 +78,12 @@ unfolding hear_column
 column_law {ear} {c} {signs} {said} {before} {all} spread col c' signs' key said' before' all' heads h clef_is key_is
     same said_is heads_are before_is all_is =
     let ns = col.notes in
-    let clef = ap (λ d. clef_behind d ns) h.clef_is ∙ clef_is in
+    let clef = ap (λ d. clef_after d ns) h.clef_is ∙ clef_is in
     let keys = ap (λ d. if gives_key col.leads ns then entries d ns else ear.key.signs) clef ∙ key_is in
     let e : hear_column spread ear col ≡ ear_with c' key (map shown_head said') (last_or ear.before heads) [] all'
     = ap column_closed
-    (walked spread col (clef_behind ear.clef ns)
-    (if gives_key col.leads ns then entries (clef_behind ear.clef ns) ns else ear.key.signs) ear.before ear.heard ns
+    (walked spread col (clef_after ear.clef ns)
+    (if gives_key col.leads ns then entries (clef_after ear.clef ns) ns else ear.key.signs) ear.before ear.heard ns
     ear.said ear.here)
     ∙ (λ i.
     column_closed
@@ -242,7 +242,7 @@ chord_law : {ear : Listener} {c : Clef} {signs : List Sign} {said : List Head} {
     {all : List page.Heard} (spread : Spread) (role : Role) (before' : List score.AlteredHead)
     (all' heads : List page.Heard) (hs : List Head) (ties : List ℤ)
     → Hears ear c signs said before all → is_head role ≡ true
-    → ((d : Clef) (dy : ℤ) (ns : List HeardGlyph) → clef_behind d (note role dy ∷ ns) ≡ clef_behind d ns)
+    → ((d : Clef) (dy : ℤ) (ns : List HeardGlyph) → clef_after d (note role dy ∷ ns) ≡ clef_after d ns)
     → ((g : Head) (gs : List Head) → said_with role g gs ≡ gs ++ g ∷ [])
     → AllReach c hs
     → SignsRead c (chord_column role c hs ties).notes hs
@@ -256,7 +256,7 @@ chord_law {ear} {c} {signs} {said} spread role before' all' heads hs ties h head
     all_is =
     let col = chord_column role c hs ties in let ns = head_notes role c hs in
     column_law spread col c signs ear.key.signs (said ++ hs) before' all' heads h
-    (signs_passed (clef_behind c) (λ a dy ms. refl) c hs ns ∙ heads_passed (clef_behind c) role (clef c) c hs)
+    (signs_passed (clef_after c) (λ a dy ms. refl) c hs ns ∙ heads_passed (clef_after c) role (clef c) c hs)
     (ap (λ b. if b then entries c col.notes else ear.key.signs) (chord_key role c hs head)) h.key
     (signs_passed (said_with_column c col (map shown_head said)) (λ a dy ms. refl) c hs ns
     ∙ chord_said role c col said hs one reach read)

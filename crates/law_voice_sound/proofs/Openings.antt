@@ -22,7 +22,7 @@ use Rattle.ps_heard.specs.declared.column.Listener.{Listener}
 use Rattle.ps_heard.specs.declared.column.HeardGlyph.{HeardGlyph}
 use Rattle.ps_heard.specs.declared.column.Role.{Role}
 use Rattle.ps_heard.specs.Ear.{hear_column}
-use Rattle.ps_heard.specs.Hearing.{clef_behind, entries, gives_key, heads_from, is_head, said_with_column}
+use Rattle.ps_heard.specs.Hearing.{clef_after, entries, gives_key, heads_from, is_head, said_with_column}
 use Rattle.law_voice_sound.specs.Noted.{change_notes, change_signs, clef_notes, entry_notes, head_column_notes}
 use Rattle.law_voice_sound.specs.Noted.{naturals, new_signs, note}
 use Rattle.law_voice_sound.proofs.Columns.{Hears, SameKey, column_law, shown_head}
@@ -50,9 +50,9 @@ opening_passed f one other (Some new) c ss =
     other new (steps_dy (clef_row new).line) (entry_notes c ss) ∙ entries_passed f one c ss
 
 clef_shown : (d : Clef) (clef : Option Clef) (c : Clef) (ss : List Sign)
-    → clef_behind d (opening clef c ss) ≡ unwrap_or clef d
-clef_shown d None c ss = entries_passed (clef_behind d) (λ a dy ns. refl) c ss
-clef_shown d (Some new) c ss = entries_passed (clef_behind new) (λ a dy ns. refl) c ss
+    → clef_after d (opening clef c ss) ≡ unwrap_or clef d
+clef_shown d None c ss = entries_passed (clef_after d) (λ a dy ns. refl) c ss
+clef_shown d (Some new) c ss = entries_passed (clef_after new) (λ a dy ns. refl) c ss
 
 signs_shown : (clef : Option Clef) (c : Clef) (ss : List Sign) → entries c (opening clef c ss) ≡ ss
 signs_shown None c ss = entries_read c ss
@@ -99,12 +99,12 @@ natural_key p (s ∷ ss) = one (same_letter s.letter p.letter) (natural_key p ss
     one false e = e
 
 -- the key that is heard after a change: a column without heads gives it if it has a sign
-abbrev key_behind : List Sign → List Sign → List Sign
-key_behind key [] = key
-key_behind key (s ∷ ss) = s ∷ ss
+abbrev key_left_after : List Sign → List Sign → List Sign
+key_left_after key [] = key
+key_left_after key (s ∷ ss) = s ∷ ss
 
 key_given : (clef : Option Clef) (c : Clef) (ss key : List Sign)
-    → (if gives_key false (opening clef c ss) then ss else key) ≡ key_behind key ss
+    → (if gives_key false (opening clef c ss) then ss else key) ≡ key_left_after key ss
 key_given None c [] key = refl
 key_given (Some new) c [] key = refl
 key_given None c (s ∷ ss) key =
@@ -112,16 +112,16 @@ key_given None c (s ∷ ss) key =
 key_given (Some new) c (s ∷ ss) key =
     ap (λ b. if not b then s ∷ ss else key) (entries_passed (list_any (λ n. is_head n.role)) (λ a dy ns. refl) c ss)
 
-same_behind_new : (key old new : List Sign) → SameKey key old → SameKey (key_behind key (new_signs old new)) new
-same_behind_new key [] [] same p = same p
-same_behind_new key (s ∷ ss) [] same p = natural_key p (s ∷ ss)
-same_behind_new key old (s ∷ ss) same p = refl
+same_after_new : (key old new : List Sign) → SameKey key old → SameKey (key_left_after key (new_signs old new)) new
+same_after_new key [] [] same p = same p
+same_after_new key (s ∷ ss) [] same p = natural_key p (s ∷ ss)
+same_after_new key old (s ∷ ss) same p = refl
 
-same_behind : (key old : List Sign) (change : Option Key) (now : Key)
+same_after : (key old : List Sign) (change : Option Key) (now : Key)
     → now.signs ≡ old → SameKey key now.signs
-    → SameKey (key_behind key (change_signs old change)) (unwrap_or change now).signs
-same_behind key old None now e same p = same p
-same_behind key old (Some new) now e same p = same_behind_new key old new.signs (rw (← e) same) p
+    → SameKey (key_left_after key (change_signs old change)) (unwrap_or change now).signs
+same_after key old None now e same p = same p
+same_after key old (Some new) now e same p = same_after_new key old new.signs (rw (← e) same) p
 
 pub change_law : (spread : Spread) (ear : Listener) (c : Clef) (now : Key) (old : List Sign) (clef : Option Clef)
     (key : Option Key) (said : List Head) (before : List score.AlteredHead) (all : List page.Heard) (ties : List ℤ)
@@ -131,9 +131,10 @@ pub change_law : (spread : Spread) (ear : Listener) (c : Clef) (now : Key) (old 
     (unwrap_or clef c) (unwrap_or key now).signs said before all
 change_law spread ear c now old clef key said before all ties h e =
     let ss = change_signs old key in
-    opening_law spread false clef (unwrap_or clef c) ss (unwrap_or key now).signs (key_behind ear.key.signs ss) ties h
+    opening_law spread false clef (unwrap_or clef c) ss (unwrap_or key now).signs (key_left_after ear.key.signs ss) ties
+    h
     refl
-    (key_given clef (unwrap_or clef c) ss ear.key.signs) (same_behind ear.key.signs old key now e h.key)
+    (key_given clef (unwrap_or clef c) ss ear.key.signs) (same_after ear.key.signs old key now e h.key)
 
 -- ---- a bar
 pub bar_law : (spread : Spread) (ear : Listener) (c : Clef) (signs : List Sign) (said : List Head)

@@ -19,8 +19,8 @@ use Rattle.mus_onsets.specs.Keys.{has_features}
 use Rattle.mus_ink.specs.Bars.{bar_glyph}
 use Rattle.mus_drawn.specs.declared.sounds.Sound.{Sound}
 use Rattle.mus_drawn.specs.declared.standing.StaffState.{StaffState}
-use Rattle.mus_drawn.specs.Drawn.{standing_after, standing_behind}
-use Rattle.mus_drawn.specs.Hearing.{events_sounds, heard_at, heard_behind, said_at, said_after, sounds_from}
+use Rattle.mus_drawn.specs.Drawn.{standing_after, staff_state_after}
+use Rattle.mus_drawn.specs.Hearing.{events_sounds, heard_at, heard_after, said_at, said_after, sounds_from}
 use Rattle.mus_drawn.specs.declared.sounds.AlteredHead as score
 use Rattle.ps_heard.specs.declared.column.Heard as page
 use Rattle.ps_heard.specs.declared.column.Listener.{Listener}
@@ -35,7 +35,7 @@ use Rattle.law_voice_sound.specs.Sounds.{heard_sound}
 use Rattle.law_voice_sound.specs.Columns.{bar_column, change_columns, chord_column, event_columns, heard_events}
 use Rattle.law_voice_sound.specs.Columns.{first_columns, grace_columns, last_event, state_shown, tie_heights}
 use Rattle.law_voice_sound.proofs.Columns.{Hears, grace_law, heads_heard, heads_in, note_law}
-use Rattle.law_voice_sound.proofs.Listening.{nothing_told}
+use Rattle.law_voice_sound.proofs.Listening.{nothing_known}
 use Rattle.law_voice_sound.proofs.Openings.{bar_law, change_law}
 use Rattle.law_voice_sound.proofs.Reaching.{AllReach, as_heard}
 use Rattle.law_voice_sound.proofs.Ties.{ties_end}
@@ -130,8 +130,9 @@ pub events_law : (spread : Spread) (in_head : Bool) (ear : Listener) (now : Staf
     → Knows ear (if in_head then state_shown now fs else now) said before prev all
     → AreInReach now.clef fs
     → All IsClearFlat fs
-    → Knows (hear_columns spread ear (heard_events in_head now prev fs)) (standing_behind now fs) (said_through said fs)
-    (heard_behind spread now said before fs) (last_event prev fs)
+    → Knows (hear_columns spread ear (heard_events in_head now prev fs)) (staff_state_after now fs)
+    (said_through said fs)
+    (heard_after spread now said before fs) (last_event prev fs)
     (all ++ map heard_sound (events_sounds 0 spread now said before fs))
 events_law spread true ear now said before prev all [] k r a = rw (append-nil all) k
 events_law spread false ear now said before prev all [] k r a = rw (append-nil all) k
@@ -183,14 +184,14 @@ pub bar_tells : (b : Bar) → Telling (bar_glyph b)
 unfolding bar_glyph
 bar_tells b = bar_choice (b.end || b.last) (b.start || b.initial) b.double b.dotted b.unseen
 
-pub behind_bar : (spread : Spread) (ear : Listener) (now : StaffState) (said : List Head)
+pub after_bar : (spread : Spread) (ear : Listener) (now : StaffState) (said : List Head)
     (before : List score.AlteredHead) (prev : List Head) (all : List page.Heard) (b : Bar) (ms : List Measure)
     → Knows ear now said before prev all
     → (bar_glyph b ≡ Glyph.Nn → (said ≡ []) ⊎ AreSilentMeasures ms)
     → Telling (bar_glyph b)
     → IsReady (hear_column spread ear (bar_column b)) now before prev all ms
 unfolding Telling
-behind_bar spread ear now said before prev all b ms k left (inl e) =
+after_bar spread ear now said before prev all b ms k left (inl e) =
     record {
       said = [];
       knows = record {
@@ -200,8 +201,8 @@ behind_bar spread ear now said before prev all b ms k left (inl e) =
       };
       left = inl refl;
     }
-behind_bar spread ear now said before prev all b ms k left (inr e) =
-    record { said = said; knows = rw (e.1, nothing_told spread ear [] k.hears.here) k; left = left e.0 }
+after_bar spread ear now said before prev all b ms k left (inr e) =
+    record { said = said; knows = rw (e.1, nothing_known spread ear [] k.hears.here) k; left = left e.0 }
 
 pub seen_or_left : {S : Type 0} (said : List Head) (b : Bar)
     → (bar_glyph b ≡ Glyph.Nn → ⊥) ⊎ S → bar_glyph b ≡ Glyph.Nn → (said ≡ []) ⊎ S
@@ -217,4 +218,4 @@ first_law spread ear now before prev all ms None r = r
 first_law spread ear now before prev all ms (Some bar) r =
     elim (has_features bar) as
     (λ b. IsReady (hear_columns spread ear (if b then bar_column bar ∷ [] else [])) now before prev all ms)
-    [ true ↦ behind_bar spread ear now r.said before prev all bar ms r.knows (λ _. r.left) (bar_tells bar) | false ↦ r ]
+    [ true ↦ after_bar spread ear now r.said before prev all bar ms r.knows (λ _. r.left) (bar_tells bar) | false ↦ r ]

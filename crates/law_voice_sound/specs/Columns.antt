@@ -13,7 +13,7 @@ use Rattle.mus_onsets.specs.Keys.{has_features}
 use Rattle.mus_arcs.specs.Arcs.{has_pitch}
 use Rattle.mus_ink.specs.Notes.{dy_of}
 use Rattle.mus_drawn.specs.declared.standing.StaffState.{StaffState}
-use Rattle.mus_drawn.specs.Drawn.{standing_after, standing_behind, standing_of}
+use Rattle.mus_drawn.specs.Drawn.{standing_after, staff_state_after, standing_of}
 use Rattle.ps_heard.specs.declared.column.HeardColumn.{HeardColumn}
 use Rattle.ps_heard.specs.declared.column.Role.{Role}
 use Rattle.law_voice_sound.specs.Noted.{bar_notes, change_notes, head_column_notes, head_notes, sign_notes}
@@ -72,7 +72,7 @@ abbrev pub heard_measures : Bool → StaffState → List Head → List Measure �
 heard_measures in_head now prev [] = []
 heard_measures in_head now prev (m ∷ ms) =
     (heard_events in_head now prev (flats_of m.body) ++ bar_column m.bar ∷ [])
-    ++ heard_measures false (standing_behind now (flats_of m.body)) (last_event prev (flats_of m.body)) ms
+    ++ heard_measures false (staff_state_after now (flats_of m.body)) (last_event prev (flats_of m.body)) ms
 
 -- what a head shows: what is in force at the first event of its first measure
 abbrev pub state_shown : StaffState → List Flat → StaffState
@@ -99,7 +99,7 @@ heard_system first now prev ms =
 -- what is in force after measures, and the heads of the last event
 abbrev pub standing_through : StaffState → List Measure → StaffState
 standing_through now [] = now
-standing_through now (m ∷ ms) = standing_through (standing_behind now (flats_of m.body)) ms
+standing_through now (m ∷ ms) = standing_through (staff_state_after now (flats_of m.body)) ms
 
 abbrev pub last_through : List Head → List Measure → List Head
 last_through prev [] = prev

@@ -12,8 +12,8 @@ abbrev pub has_notes : List HeardGlyph → Bool
 has_notes [] = false
 has_notes (n ∷ ns) = true
 
-abbrev pub is_told : HeardColumn → Bool
-is_told col = col.leads || has_notes col.notes
+abbrev pub is_reported : HeardColumn → Bool
+is_reported col = col.leads || has_notes col.notes
 
 abbrev pub plain : HeardColumn → HeardColumn
 plain col = record {
@@ -24,4 +24,4 @@ plain col = record {
 
 abbrev pub columns_heard : List HeardColumn → List HeardColumn
 columns_heard [] = []
-columns_heard (col ∷ cols) = if is_told col then plain col ∷ columns_heard cols else columns_heard cols
+columns_heard (col ∷ cols) = if is_reported col then plain col ∷ columns_heard cols else columns_heard cols

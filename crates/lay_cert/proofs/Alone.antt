@@ -11,7 +11,7 @@ use Rattle.lay_cert.specs.Lines.{line_text, lines_then, sum_text}
 use Rattle.lay_cert.specs.Listing.{Entry, none_forced, IsListing, listing_lines}
 use Rattle.lay_cert.specs.ReaderStates.{ReaderState, begun, between, choosing, proving, ended, MayCome, state_after}
 use Rattle.lay_cert.specs.ReaderStates.{Leads, IsStuck}
-use Rattle.lay_cert.specs.Told.{IsGood}
+use Rattle.lay_cert.specs.Reported.{IsGood}
 use Rattle.lay_cert.specs.Laws.{GoodByLines, TellsOne, FaultsTellNone, NoPrefix}
 use Rattle.lay_cert.specs.declared.lines.ListingLine.{ListingLine}
 use Rattle.lay_cert.proofs.Forms.{span_text, tune_text}
@@ -240,9 +240,9 @@ no_way p (l ∷ ls) (m ∷ ms) q fs rest g h s k e =
     (subst (λ m. Leads (state_after p m) ms (ended fs)) (sym is) k.1) c.1
 
 -- the lines that lead to the end are those of the listed entries
-pub told_by_lines : (text : List ℕ) (ls : List ListingLine) (es : List Entry)
+pub reported_by_lines : (text : List ℕ) (ls : List ListingLine) (es : List Entry)
     → text ≡ lines_then ls [] → Leads begun ls (ended es) → IsListing text es
-told_by_lines text ls es e h = record {
+reported_by_lines text ls es e h = record {
   entries = leads_good begun ls (ended es) h tt;
   lines = e ∙ ap (λ ls. lines_then ls []) (sym (leads_lines begun ls (ended es) h tt));
 }
@@ -250,7 +250,7 @@ told_by_lines text ls es e h = record {
 pub good_by_lines : GoodByLines
 good_by_lines text es = (
   (λ h. (listing_lines es, h.lines, listing_leads es h.entries)),
-  (λ h. told_by_lines text h.0 es h.1 h.2),
+  (λ h. reported_by_lines text h.0 es h.1 h.2),
 )
 
 pub tells_one : TellsOne

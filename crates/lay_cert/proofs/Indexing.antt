@@ -169,17 +169,17 @@ module _ (n : ℕ) (spans : List Span) (firsts : List ℕ) (s : Span) (h : AreSp
           | inl k ↦ indexed.each i t k
           | inr k ↦
               subst (λ t. i ≡ slice_index firsts t.a + (t.b - t.a - 1)) k.1
-              (k.0 ∙ behind (last_span_from None spans) refl m.follows)
+              (k.0 ∙ following (last_span_from None spans) refl m.follows)
         ];
     inside = λ a. let old = indexed.inside a in let more = length-append spans (s ∷ []) in omega (arith, old, more);
   }
     where
-      behind : (o : Option Span)
+      following : (o : Option Span)
           → last_span_from None spans ≡ o → MatchOption o (s.b ≡ s.a + 1) (λ p. IsNextSpan p s)
           → length spans ≡ slice_index firsts s.a + (s.b - s.a - 1)
-      behind None e f = absurd (later f)
-      behind (Some p) e (inl f) = absurd (later f.1)
-      behind (Some p) e (inr f) = elim (last_stands None spans p e) [
+      following None e f = absurd (later f)
+      following (Some p) e (inl f) = absurd (later f.1)
+      following (Some p) e (inr f) = elim (last_stands None spans p e) [
         | inl k ↦ absurd (none-some p k.1)
         | inr k ↦
             let old = indexed.each k.0 p k.2 in

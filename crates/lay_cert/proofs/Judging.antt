@@ -21,7 +21,7 @@ use Rattle.lay_cert.specs.declared.state.ListingState.{ListingState}
 use Rattle.lay_cert.proofs.Grown.{listed_within, push_tune}
 use Rattle.lay_cert.proofs.Steps.{leads_good, leads_more, one_more}
 use Rattle.lay_cert.proofs.Through.{begun_with}
-use Rattle.lay_cert.proofs.Alone.{apart, tune_alone, span_alone, choice_alone, may_lack, told_by_lines}
+use Rattle.lay_cert.proofs.Alone.{apart, tune_alone, span_alone, choice_alone, may_lack, reported_by_lines}
 use Rattle.lay_cert.proofs.Alone.{faults_tell_none}
 use Rattle.eng_lines.{specs.Lines.Lacks, proofs.Words.one_cut, proofs.Words.lacks_none}
 
@@ -120,20 +120,20 @@ pub record IsReading (text : List ℕ) (s : ListingState) (js : List Judged) (re
   pub stands : Represents s js place
   pub counted : number ≡ length lines + 1
 
-pub reading_more : (text : List ℕ) (s t : ListingState) (js ks : List Judged) (rest raw behind : List ℕ) (number : ℕ)
+pub reading_more : (text : List ℕ) (s t : ListingState) (js ks : List Judged) (rest raw following : List ℕ) (number : ℕ)
     → IsReading text s js rest number
-    → rest ≡ raw ++ 10 ∷ behind
+    → rest ≡ raw ++ 10 ∷ following
     → ((p : ReaderState) → Represents s js p → IsStep p raw ks (Some t))
-    → IsReading text t ks behind (number + 1)
-reading_more text s t js ks rest raw behind number h cut step =
+    → IsReading text t ks following (number + 1)
+reading_more text s t js ks rest raw following number h cut step =
     let m = step h.place h.stands in let n = h.counted in let k = length-append h.lines (m.0 ∷ []) in
     record {
       lines = h.lines ++ m.0 ∷ [];
       place = state_after h.place m.0;
       so_far =
           h.so_far
-          ∙ (ap (λ r. lines_then h.lines r) (cut ∙ ap (λ r. r ++ 10 ∷ behind) m.1)
-          ∙ sym (lines_push h.lines m.0 behind));
+          ∙ (ap (λ r. lines_then h.lines r) (cut ∙ ap (λ r. r ++ 10 ∷ following) m.1)
+          ∙ sym (lines_push h.lines m.0 following));
       leads = leads_more begun h.lines h.place m.0 h.leads m.2;
       stands = m.3;
       counted = omega arith;
@@ -147,17 +147,17 @@ first_fault text s js rest number h stuck =
     let f : IsFirstFault text number = (h.lines, rest, h.place, h.so_far, h.leads, stuck, h.counted) in
     (f, (λ es k. faults_tell_none text number es f k))
 
-pub stuck_at_line : (text : List ℕ) (s : ListingState) (js ks : List Judged) (rest raw behind : List ℕ) (number : ℕ)
+pub stuck_at_line : (text : List ℕ) (s : ListingState) (js ks : List Judged) (rest raw following : List ℕ) (number : ℕ)
     (h : IsReading text s js rest number)
-    → rest ≡ raw ++ 10 ∷ behind → Lacks 10 raw
+    → rest ≡ raw ++ 10 ∷ following → Lacks 10 raw
     → ((p : ReaderState) → Represents s js p → IsStep p raw ks None)
     → IsStuck h.place rest
-stuck_at_line text s js ks rest raw behind number h cut lacks step = (
+stuck_at_line text s js ks rest raw following number h cut lacks step = (
   (λ l more e m. let g = leads_good begun h.lines h.place h.leads tt in
-      let one = one_cut 10 raw (line_text l) behind more lacks (may_lack h.place l m g) (sym cut ∙ e) in
+      let one = one_cut 10 raw (line_text l) following more lacks (may_lack h.place l m g) (sym cut ∙ e) in
       step h.place h.stands l one.0 m),
   (λ es e is.
-      let n = ap length (sym cut ∙ e) in let k = length-append raw (10 ∷ behind) in absurd (omega (arith, n, k))),
+      let n = ap length (sym cut ∙ e) in let k = length-append raw (10 ∷ following) in absurd (omega (arith, n, k))),
 )
 
 pub stuck_at_end : (p : ReaderState) (rest : List ℕ)
@@ -168,7 +168,7 @@ pub judged_all : (text : List ℕ) (js : List Judged) (rest : List ℕ) (number 
     → IsReading text ListingState.Ended js rest number → rest ≡ [] → IsJudged text js
 judged_all text js rest number h e =
     at_ended (λ p. Leads begun h.lines p → IsJudged text js) js h.place h.stands
-    (λ es v l. (es, told_by_lines text h.lines es (h.so_far ∙ ap (λ r. lines_then h.lines r) e) l, v)) h.leads
+    (λ es v l. (es, reported_by_lines text h.lines es (h.so_far ∙ ap (λ r. lines_then h.lines r) e) l, v)) h.leads
 
 -- only the last checker state represents the end
 pub ended_stage : (s : ListingState) (js : List Judged) (es : List Entry)

@@ -11,7 +11,7 @@ use Rattle.lay_breaks.specs.declared.costs.Span.{Span}
 use Rattle.lay_cert.specs.Listing.{Entry, IsEntry, none_forced, entry_lines, all_lines, potential_lines}
 use Rattle.lay_cert.specs.ReaderStates.{ReaderState, begun, between, choosing, proving, MayCome, state_after, Leads}
 use Rattle.lay_cert.specs.ReaderStates.{last_tune_from}
-use Rattle.lay_cert.specs.Told.{IsProving, IsGood, lines_of_state, begun_lines}
+use Rattle.lay_cert.specs.Reported.{IsProving, IsGood, lines_of_state, begun_lines}
 use Rattle.lay_cert.specs.declared.lines.ListingLine.{ListingLine}
 use Rattle.lay_cert.proofs.Grown.{push_potential, push_entry, push_entries, push_span, push_legal, listed_within}
 
@@ -137,10 +137,10 @@ step_good (proving es e) (ListingLine.Potential bar least) m h =
 step_good p l m h = absurd m
 
 -- one more line after the entries so far
-behind : (es : List Entry) (xs ys : List ListingLine) (l : ListingLine)
+following : (es : List Entry) (xs ys : List ListingLine) (l : ListingLine)
     → xs ≡ ys ++ l ∷ []
     → (ListingLine.Listing ∷ all_lines es) ++ xs ≡ ((ListingLine.Listing ∷ all_lines es) ++ ys) ++ l ∷ []
-behind es xs ys l e =
+following es xs ys l e =
     ap (λ t. (ListingLine.Listing ∷ all_lines es) ++ t) e
     ∙ sym (append_assoc (ListingLine.Listing ∷ all_lines es) ys (l ∷ []))
 
@@ -176,20 +176,20 @@ step_lines begun ListingLine.Listing m h = refl
 step_lines (between es) (ListingLine.Tune tune bars) m h = refl
 step_lines (between es) ListingLine.End m h = refl
 step_lines (choosing es e) (ListingLine.OneSpan s) m h =
-    behind es _ (begun_lines e) (ListingLine.OneSpan s) (begun_span e.tune e.bars e.spans e.breaks s m.0)
+    following es _ (begun_lines e) (ListingLine.OneSpan s) (begun_span e.tune e.bars e.spans e.breaks s m.0)
 step_lines (choosing es e) (ListingLine.Choose bar) m h =
-    behind es _ (begun_lines e) (ListingLine.Choose bar) (begun_break e.tune e.bars e.spans e.breaks bar)
+    following es _ (begun_lines e) (ListingLine.Choose bar) (begun_break e.tune e.bars e.spans e.breaks bar)
 step_lines (choosing es e) (ListingLine.Total total) m h =
     sym (append_assoc (ListingLine.Listing ∷ all_lines es) (begun_lines e) (ListingLine.Total total ∷ []))
 step_lines (proving es e) (ListingLine.Potential bar least) m h =
-    let told = behind es (entry_lines (one_more e least)) (entry_lines e) (ListingLine.Potential bar least)
+    let reported = following es (entry_lines (one_more e least)) (entry_lines e) (ListingLine.Potential bar least)
     (proved_more e bar least m.0) in
     potential_cases e
     (λ t.
     lines_of_state (if t then between (es ++ one_more e least ∷ []) else proving es (one_more e least))
     ≡ ((ListingLine.Listing ∷ all_lines es) ++ entry_lines e) ++ ListingLine.Potential bar least ∷ [])
-    (λ is. ap (λ t. ListingLine.Listing ∷ t) (push_entry es (one_more e least)) ∙ told)
-    (λ l. told) h.1.some_left
+    (λ is. ap (λ t. ListingLine.Listing ∷ t) (push_entry es (one_more e least)) ∙ reported)
+    (λ l. reported) h.1.some_left
 step_lines p l m h = absurd m
 
 pub leads_good : (p : ReaderState) (ls : List ListingLine) (q : ReaderState) → Leads p ls q → IsGood p → IsGood q

@@ -17,8 +17,8 @@ use Rattle.lay_cert.proofs.Steps.{leads_both}
 abbrev pub begun_with : ℕ → ℕ → List Span → List ℕ → Entry
 begun_with k n spans breaks = record { tune = k; bars = n; spans = spans; breaks = breaks; total = 0; potentials = [] }
 
-abbrev told : Entry → List (Option ℕ) → Entry
-told e ps =
+abbrev reported : Entry → List (Option ℕ) → Entry
+reported e ps =
     record { tune = e.tune; bars = e.bars; spans = e.spans; breaks = e.breaks; total = e.total; potentials = ps }
 
 spans_lead : (es : List Entry) (k n : ℕ) (so_far ss : List Span) → SpansFrom n (last_span_from None so_far) ss
@@ -54,13 +54,14 @@ potentials_lead : (es : List Entry) (e : Entry) (so_far : List (Option ℕ)) (q 
     → length so_far + length qs ≡ e.bars
     → ((i : ℕ) → i < suc (length qs)
     → IsPotential (listed e.spans) none_forced (length so_far + i) (slice_index_or (q ∷ qs) i None))
-    → Leads (proving es (told e so_far)) (potential_lines (length so_far) (q ∷ qs))
-    (between (es ++ told e (so_far ++ (q ∷ qs)) ∷ []))
+    → Leads (proving es (reported e so_far)) (potential_lines (length so_far) (q ∷ qs))
+    (between (es ++ reported e (so_far ++ (q ∷ qs)) ∷ []))
 potentials_lead es e so_far q [] n known =
     let is : length so_far ≡ e.bars = omega arith in
     let here : length so_far + 0 ≡ length so_far = omega arith in (
       (refl, subst (λ i. IsPotential (listed e.spans) none_forced i q) here (known 0 (omega arith))),
-      ap (λ t. if t then between (es ++ told e (so_far ++ q ∷ []) ∷ []) else proving es (told e (so_far ++ q ∷ [])))
+      ap (λ t.
+          if t then between (es ++ reported e (so_far ++ q ∷ []) ∷ []) else proving es (reported e (so_far ++ q ∷ [])))
           (eq-eqb (length so_far) e.bars is),
     )
 potentials_lead es e so_far q (r ∷ qs) n known =
@@ -68,17 +69,19 @@ potentials_lead es e so_far q (r ∷ qs) n known =
     let more : length (so_far ++ q ∷ []) ≡ length so_far + 1 = length-append so_far (q ∷ []) in (
       (refl, subst (λ i. IsPotential (listed e.spans) none_forced i q) here (known 0 (omega arith))),
       subst (λ p.
-          Leads p (potential_lines (length so_far + 1) (r ∷ qs)) (between (es ++ told e (so_far ++ (q ∷ r ∷ qs)) ∷ [])))
+          Leads p (potential_lines (length so_far + 1) (r ∷ qs))
+          (between (es ++ reported e (so_far ++ (q ∷ r ∷ qs)) ∷ [])))
           (sym (ap
-          (λ t. if t then between (es ++ told e (so_far ++ q ∷ []) ∷ []) else proving es (told e (so_far ++ q ∷ [])))
+          (λ t.
+          if t then between (es ++ reported e (so_far ++ q ∷ []) ∷ []) else proving es (reported e (so_far ++ q ∷ [])))
           (ne_eqb (length so_far) e.bars (omega arith))))
           (subst (λ t.
-          Leads (proving es (told e (so_far ++ q ∷ []))) (potential_lines (length so_far + 1) (r ∷ qs))
-          (between (es ++ told e t ∷ [])))
+          Leads (proving es (reported e (so_far ++ q ∷ []))) (potential_lines (length so_far + 1) (r ∷ qs))
+          (between (es ++ reported e t ∷ [])))
           (append_assoc so_far (q ∷ []) (r ∷ qs))
           (subst (λ i.
-          Leads (proving es (told e (so_far ++ q ∷ []))) (potential_lines i (r ∷ qs))
-          (between (es ++ told e ((so_far ++ q ∷ []) ++ (r ∷ qs)) ∷ [])))
+          Leads (proving es (reported e (so_far ++ q ∷ []))) (potential_lines i (r ∷ qs))
+          (between (es ++ reported e ((so_far ++ q ∷ []) ++ (r ∷ qs)) ∷ [])))
           more
           (potentials_lead es e (so_far ++ q ∷ []) r qs (omega arith) (λ i l.
           let at : length so_far + suc i ≡ length (so_far ++ q ∷ []) + i = omega arith in
@@ -89,7 +92,7 @@ potentials_lead es e so_far q (r ∷ qs) n known =
 after_total : (es : List Entry) (e : Entry) (ps : List (Option ℕ))
     → length ps ≡ e.bars + 1
     → ((i : ℕ) → i ≤ e.bars → IsPotential (listed e.spans) none_forced i (slice_index_or ps i None))
-    → Leads (proving es (told e [])) (potential_lines 0 ps) (between (es ++ told e ps ∷ []))
+    → Leads (proving es (reported e [])) (potential_lines 0 ps) (between (es ++ reported e ps ∷ []))
 after_total es e [] n known = absurd (omega arith)
 after_total es e (p ∷ ps) n known =
     potentials_lead es e [] p ps (omega arith) (λ i l. let at : i ≡ 0 + i = omega arith in

@@ -1,7 +1,7 @@
 pub mod Lines
 pub mod Listing
 pub mod ReaderStates
-pub mod Told
+pub mod Reported
 pub mod Laws
 pub mod Verdicts
 pub mod Indexed

@@ -61,12 +61,12 @@ pub fn check_listing(alloc: Global, bytes: &[u8]) -> Result<Row<Judged>, CertErr
     let mut stage = ListingState::Begun;
     let mut rest = bytes;
     let mut line: u64 = 1;
-    while let Some((raw, behind)) = cut_at(b'\n', rest) {
+    while let Some((raw, following)) = cut_at(b'\n', rest) {
         let Some(next) = step(alloc, stage, raw, &mut judged)? else {
             return Err(CertError::NotListing { line });
         };
         stage = next;
-        rest = behind;
+        rest = following;
         line += 1;
     }
     if !rest.is_empty() {

@@ -368,8 +368,8 @@ pub fn step(
     match stage {
         ListingState::Begun => after_nothing(alloc, raw),
         ListingState::Between { last } => after_entry(alloc, last, raw),
-        ListingState::Choosing(told) => after_heading(alloc, told, raw),
-        ListingState::Proving(told) => after_total(alloc, told, raw, judged),
+        ListingState::Choosing(reported) => after_heading(alloc, reported, raw),
+        ListingState::Proving(reported) => after_total(alloc, reported, raw, judged),
         ListingState::Ended => Ok(None),
     }
 }

@@ -87,10 +87,10 @@ past_bar : (lengths : List ℕ) (m : ℕ) (c : Column) (cs : List Column)
     → AllByRecursion (λ c. IsInSystem lengths m (m + 1) c.key) (c ∷ cs)
     → EndWithBar (c ∷ cs)
 past_bar lengths m c [] below all =
-    record { front = []; last = c; parts = refl; bar = bar_class lengths m c.key below.0 all.0 }
+    record { prefix = []; last = c; parts = refl; bar = bar_class lengths m c.key below.0 all.0 }
 past_bar lengths m c (d ∷ cs) below all =
     let more = past_bar lengths m d cs below.1 all.1 in
-    record { front = c ∷ more.front; last = more.last; parts = ap (λ t. c ∷ t) more.parts; bar = more.bar }
+    record { prefix = c ∷ more.prefix; last = more.last; parts = ap (λ t. c ∷ t) more.parts; bar = more.bar }
 
 ends : (lengths : List ℕ) (m : ℕ) (cs : List Column)
     → Rises (keys_in cs)
@@ -99,14 +99,14 @@ ends : (lengths : List ℕ) (m : ℕ) (cs : List Column)
     → EndWithBar cs
 ends lengths m [] rise all (i, inside, is) = absurd (omega (arith, inside))
 ends lengths m (c ∷ []) rise all (zero, inside, is) =
-    record { front = []; last = c; parts = refl; bar = ap (λ k. k.class) is }
+    record { prefix = []; last = c; parts = refl; bar = ap (λ k. k.class) is }
 ends lengths m (c ∷ []) rise all (suc i, inside, is) = absurd (omega (arith, inside))
 ends lengths m (c ∷ d ∷ cs) rise all (zero, inside, is) =
     let more = past_bar lengths m d cs (subst (λ k. BelowAll k (keys_in (d ∷ cs))) is rise.0) all.1 in
-    record { front = c ∷ more.front; last = more.last; parts = ap (λ t. c ∷ t) more.parts; bar = more.bar }
+    record { prefix = c ∷ more.prefix; last = more.last; parts = ap (λ t. c ∷ t) more.parts; bar = more.bar }
 ends lengths m (c ∷ d ∷ cs) rise all (suc i, inside, is) =
     let more = ends lengths m (d ∷ cs) rise.1 all.1 (i, omega (arith, inside), is) in
-    record { front = c ∷ more.front; last = more.last; parts = ap (λ t. c ∷ t) more.parts; bar = more.bar }
+    record { prefix = c ∷ more.prefix; last = more.last; parts = ap (λ t. c ∷ t) more.parts; bar = more.bar }
 
 pub end_with_bar : (lengths : List ℕ) (m : ℕ) (cs : List Column)
     → Rises (keys_in cs) → All (λ c. IsInSystem lengths m (m + 1) c.key) cs → Contains (keys_in cs) (bar_key lengths m)

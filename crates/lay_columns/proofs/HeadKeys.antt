@@ -27,7 +27,7 @@ use Rattle.mus_time.specs.Columns.{events_columns, has_old, measures_columns, no
 use Rattle.mus_marks.specs.Events.{changes_nothing}
 use Rattle.lay_columns.specs.Measures.{begins_plain, first_plain, is_plain}
 use Rattle.lay_columns.proofs.Joined.{all_weaker}
-use Rattle.lay_columns.proofs.KeyLaws.{keys_by_more, of_behind, parts}
+use Rattle.lay_columns.proofs.KeyLaws.{keys_by_more, of_after, parts}
 
 -- ---- measures that begin without a change
 abbrev pub ArePlain : List DrawnMeasure → Type 0
@@ -162,7 +162,7 @@ module _ (lengths : List ℕ) (m : ℕ) where
       rise = are.rise.1;
       all =
           λ l has.
-          behind l (are.all l (of_behind heads own begun l vs voices has))
+          following l (are.all l (of_after heads own begun l vs voices has))
           (All-contains Late (flat_map own vs) l (own_late vs) has);
       only =
           λ l has.
@@ -187,9 +187,9 @@ module _ (lengths : List ℕ) (m : ℕ) where
               let l = least in
               absurd (omega (arith, r, e, l))
 
-      behind : (l : ColumnKey) → Contains (k ∷ ks) l → Late l → Contains ks l
-      behind l (zero, inside, is) late = absurd (omega (arith, subst Late (sym is ∙ first) late))
-      behind l (suc j, inside, is) late = (j, omega (arith, inside), is)
+      following : (l : ColumnKey) → Contains (k ∷ ks) l → Late l → Contains ks l
+      following l (zero, inside, is) late = absurd (omega (arith, subst Late (sym is ∙ first) late))
+      following l (suc j, inside, is) late = (j, omega (arith, inside), is)
 
       no_head : (l : ColumnKey)
           → Contains ks l → Contains (flat_map heads vs) l ⊎ Contains (flat_map own vs) l → Contains (flat_map own vs) l

@@ -41,7 +41,7 @@ use Rattle.lay_columns.proofs.Slots.{head_slots, lay, lay_append, lay_below, lay
 use Rattle.lay_columns.proofs.Slots.{measures_slots}
 use Rattle.lay_columns.proofs.Facts.{led_voice}
 use Rattle.lay_columns.proofs.KeyLaws.{keys_grow, slice_long, slice_more}
-use Rattle.lay_columns.proofs.Ranks.{bars_in, columns_in, Fit, IsPlaced, measures_in, rank_behind, rank_front}
+use Rattle.lay_columns.proofs.Ranks.{bars_in, columns_in, Fit, IsPlaced, measures_in, rank_after, rank_prefix}
 use Rattle.lay_columns.proofs.Ranks.{rank_less, slice_fit, voice_fit}
 use Rattle.lay_columns.proofs.SameBoxes.{core_part, staff_same}
 use Rattle.lay_columns.specs.Law.{AreColumnsFrom, MeasuresJoin, one_after_the_other}
@@ -149,11 +149,11 @@ module _ (lengths : List ℕ) (a b n : ℕ) (keys : List ColumnKey) (order : a <
 pub both_joined : (n : ℕ) (xs xt xu ys yt yu : List Laid)
     → AreJoined n xs xt xu → AreJoined n ys yt yu → AreJoined n (xs ++ ys) (xt ++ yt) (xu ++ yu)
 both_joined n xs xt xu ys yt yu h g = record {
-  front = λ rank lane l. two rank lane xs xt ys yt (h.front rank lane l) (g.front rank lane l);
-  behind = λ rank lane.
+  prefix = λ rank lane l. two rank lane xs xt ys yt (h.prefix rank lane l) (g.prefix rank lane l);
+  following = λ rank lane.
       filter_map-append (box_at (n + rank) lane) xs ys
-      ∙ ap (λ t. t ++ boxes_at (n + rank) lane ys) (h.behind rank lane)
-      ∙ ap (λ t. boxes_at rank lane xu ++ t) (g.behind rank lane)
+      ∙ ap (λ t. t ++ boxes_at (n + rank) lane ys) (h.following rank lane)
+      ∙ ap (λ t. boxes_at rank lane xu ++ t) (g.following rank lane)
       ∙ sym (filter_map-append (box_at rank lane) xu yu);
 }
   where
@@ -166,13 +166,14 @@ both_joined n xs xt xu ys yt yu h g = record {
         ∙ ap (λ t. boxes_at rank lane xt ++ t) g
         ∙ sym (filter_map-append (box_at rank lane) xt yt)
 
-module _ (lengths : List ℕ) (a b n : ℕ) (front behind : List ColumnKey) (order : a < b) (within : b < n)
-    (until : Until b front) (from : From b behind) where
+module _ (lengths : List ℕ) (a b n : ℕ) (prefix following : List ColumnKey) (order : a < b) (within : b < n)
+    (until : Until b prefix) (from : From b following) where
   part_more : (first : ℕ) (v : DrawnVoice) → HasMeasures lengths n v
-      → core_part (front ++ behind) lengths a (b + 1) first v
-      ≡ core_part front lengths a b first v ++ map (moved (length front)) (measure_part false behind lengths b first v)
+      → core_part (prefix ++ following) lengths a (b + 1) first v
+      ≡ core_part prefix lengths a b first v
+      ++ map (moved (length prefix)) (measure_part false following lengths b first v)
   part_more first v (count, fit) =
-      let keys = front ++ behind in
+      let keys = prefix ++ following in
       let xs = slice_range v.measures a b in
       let ys = slice_range v.measures b (b + 1) in
       let begun = columns_slots lengths first a v.seat v.first xs in
@@ -190,64 +191,68 @@ module _ (lengths : List ℕ) (a b n : ℕ) (front behind : List ColumnKey) (ord
       (slots_more lengths first a b v.seat v.first xs ys (omega (arith, long, order)) (omega (arith, long, order)))
       ∙ lay_append keys begun more
       ∙ ap (λ t. t ++ lay keys more)
-      (lay_same front keys begun
-      (all_weaker (λ x. IsPlaced lengths a b 0 x.key) (λ x. key_rank keys x.key ≡ key_rank front x.key)
-      (λ x h. rank_front b front behind x.key h.to from) begun begun_in))
-      ∙ ap (λ t. lay front begun ++ t)
-      (lay_moved (length front) behind keys more
+      (lay_same prefix keys begun
+      (all_weaker (λ x. IsPlaced lengths a b 0 x.key) (λ x. key_rank keys x.key ≡ key_rank prefix x.key)
+      (λ x h. rank_prefix b prefix following x.key h.to from) begun begun_in))
+      ∙ ap (λ t. lay prefix begun ++ t)
+      (lay_moved (length prefix) following keys more
       (all_weaker (λ x. IsPlaced lengths b (b + 1) 0 x.key)
-      (λ x. key_rank keys x.key ≡ length front + key_rank behind x.key)
-      (λ x h. rank_behind b front behind x.key h.from until) more more_in))
-      ∙ ap (λ t. t ++ map (moved (length front)) (lay behind more))
-      (sym (columns_laid front lengths first a v.seat v.first xs))
+      (λ x. key_rank keys x.key ≡ length prefix + key_rank following x.key)
+      (λ x h. rank_after b prefix following x.key h.from until) more more_in))
+      ∙ ap (λ t. t ++ map (moved (length prefix)) (lay following more))
+      (sym (columns_laid prefix lengths first a v.seat v.first xs))
       ∙ ap (λ t.
-      columns_part front lengths (Some (fixed_place first)) a v.seat v.first xs ++ map (moved (length front)) t)
-      (sym (measures_laid behind first lengths b false ys))
+      columns_part prefix lengths (Some (fixed_place first)) a v.seat v.first xs ++ map (moved (length prefix)) t)
+      (sym (measures_laid following first lengths b false ys))
 
-  module _ (bars : HasBars lengths a b front) where
+  module _ (bars : HasBars lengths a b prefix) where
     part_joined : (first : ℕ) (v : DrawnVoice) → HasMeasures lengths n v
-        → AreJoined (length front) (core_part (front ++ behind) lengths a (b + 1) first v)
-        (core_part front lengths a b first v) (measure_part false behind lengths b first v)
+        → AreJoined (length prefix) (core_part (prefix ++ following) lengths a (b + 1) first v)
+        (core_part prefix lengths a b first v) (measure_part false following lengths b first v)
     part_joined first v h =
-        let begun = core_part front lengths a b first v in let more = measure_part false behind lengths b first v in
-        subst (λ t. AreJoined (length front) t begun more)
-        (append-nil (begun ++ map (moved (length front)) more) ∙ sym (part_more first v h))
-        (marks_join (length front) begun more []
-        (All-from_recursion (λ l. IsBelow (length front) (mark_rank l.mark)) begun
-        (part_below lengths a b n front order (omega (arith, within)) bars first v h))
+        let begun = core_part prefix lengths a b first v in let more = measure_part false following lengths b first v in
+        subst (λ t. AreJoined (length prefix) t begun more)
+        (append-nil (begun ++ map (moved (length prefix)) more) ∙ sym (part_more first v h))
+        (marks_join (length prefix) begun more []
+        (All-from_recursion (λ l. IsBelow (length prefix) (mark_rank l.mark)) begun
+        (part_below lengths a b n prefix order (omega (arith, within)) bars first v h))
         (All-nil (λ l. mark_rank l.mark ≡ None)))
 
     parts_joined : (first : ℕ) (vs : List DrawnVoice) → AllByRecursion (HasMeasures lengths n) vs
-        → AreJoined (length front) (parts_from (core_part (front ++ behind) lengths a (b + 1)) first vs)
-        (parts_from (core_part front lengths a b) first vs) (parts_from (measure_part false behind lengths b) first vs)
-    parts_joined first [] h = record { front = λ rank lane l. refl; behind = λ rank lane. refl }
+        → AreJoined (length prefix) (parts_from (core_part (prefix ++ following) lengths a (b + 1)) first vs)
+        (parts_from (core_part prefix lengths a b) first vs)
+        (parts_from (measure_part false following lengths b) first vs)
+    parts_joined first [] h = record { prefix = λ rank lane l. refl; following = λ rank lane. refl }
     parts_joined first (v ∷ vs) h =
-        both_joined (length front) (core_part (front ++ behind) lengths a (b + 1) first v)
-        (core_part front lengths a b first v) (measure_part false behind lengths b first v) _ _ _
+        both_joined (length prefix) (core_part (prefix ++ following) lengths a (b + 1) first v)
+        (core_part prefix lengths a b first v) (measure_part false following lengths b first v) _ _ _
         (part_joined first v h.0) (parts_joined (first + v.verses) vs h.1)
 
   staves_joined : (staves : List (List DrawnVoice))
-      → AllByRecursion (AllByRecursion (HasMeasures lengths n)) staves → (1 ≤ length staves → HasBars lengths a b front)
-      → StavesJoin (length front) (map (core_staff (front ++ behind) lengths a (b + 1)) staves)
-      (map (core_staff front lengths a b) staves) (map (measure_staff false behind lengths b) staves)
+      → AllByRecursion (AllByRecursion (HasMeasures lengths n)) staves
+      → (1 ≤ length staves → HasBars lengths a b prefix)
+      → StavesJoin (length prefix) (map (core_staff (prefix ++ following) lengths a (b + 1)) staves)
+      (map (core_staff prefix lengths a b) staves) (map (measure_staff false following lengths b) staves)
   staves_joined [] h bars = tt
   staves_joined (vs ∷ staves) h bars =
       (parts_joined (bars (omega arith)) 1 vs h.0, staves_joined staves h.1 (λ some. bars (omega arith)))
 
-  others : OfOtherMeasures front behind
-  others = All-from_recursion (λ k. All (λ l. l.measure ≢ k.measure) behind) front
-      (all_weaker (λ k. k.measure < b) (λ k. All (λ l. l.measure ≢ k.measure) behind) (λ k h.
-      All-from_recursion (λ l. l.measure ≢ k.measure) behind
-      (all_weaker (λ l. b ≤ l.measure) (λ l. l.measure ≢ k.measure) (λ l g e. omega (arith, h, g, e)) behind from))
-      front until)
+  others : OfOtherMeasures prefix following
+  others = All-from_recursion (λ k. All (λ l. l.measure ≢ k.measure) following) prefix
+      (all_weaker (λ k. k.measure < b) (λ k. All (λ l. l.measure ≢ k.measure) following) (λ k h.
+      All-from_recursion (λ l. l.measure ≢ k.measure) following
+      (all_weaker (λ l. b ≤ l.measure) (λ l. l.measure ≢ k.measure) (λ l g e. omega (arith, h, g, e)) following from))
+      prefix until)
 
   columns_more : (staves : List (List DrawnVoice)) (verses : List ℕ)
-      → AllByRecursion (AllByRecursion (HasMeasures lengths n)) staves → (1 ≤ length staves → HasBars lengths a b front)
-      → columns_of (front ++ behind) (map (core_staff (front ++ behind) lengths a (b + 1)) staves) lengths verses
-      ≡ columns_of front (map (core_staff front lengths a b) staves) lengths verses
-      ++ columns_of behind (map (measure_staff false behind lengths b) staves) lengths verses
+      → AllByRecursion (AllByRecursion (HasMeasures lengths n)) staves
+      → (1 ≤ length staves → HasBars lengths a b prefix)
+      → columns_of (prefix ++ following) (map (core_staff (prefix ++ following) lengths a (b + 1)) staves) lengths
+      verses
+      ≡ columns_of prefix (map (core_staff prefix lengths a b) staves) lengths verses
+      ++ columns_of following (map (measure_staff false following lengths b) staves) lengths verses
   columns_more staves verses h bars =
-      columns_join front behind _ _ _ lengths verses others (staves_joined staves h bars)
+      columns_join prefix following _ _ _ lengths verses others (staves_joined staves h bars)
 
 -- ---- a staff as it is drawn
 abbrev empty : List DrawnVoice → StaffMarks
@@ -263,10 +268,10 @@ module _ (lengths verses : List ℕ) (a b n : ℕ) (keys : List ColumnKey) (orde
       (parts_below lengths a b n keys order within bars 1 vs h) in
       let alone = marks_join (length keys) core [] [] below (All-nil (λ l. mark_rank l.mark ≡ None)) in
       record {
-        front = staff_same keys lengths a b vs;
-        behind = λ rank lane.
+        prefix = staff_same keys lengths a b vs;
+        following = λ rank lane.
             ap (boxes_at (length keys + rank) lane) (sym (append-nil core) ∙ sym (append-nil (core ++ [])))
-            ∙ alone.behind rank lane;
+            ∙ alone.following rank lane;
       }
 
   all_drawn : (staves : List (List DrawnVoice))
@@ -358,17 +363,18 @@ module _ (s : Score) (good : IsGoodScore s) (a : ℕ) (verses : List ℕ) where
       → AreMeasureColumns (a == b) s (timeline_of s) b verses further
       → AreColumns s a (b + 1) verses (columns ++ further)
   one_more b columns further order within (keys, are, value) columns_there =
-      let behind = keys_in further in
+      let following = keys_in further in
       let more =
       subst (λ begins. AreMeasureColumns begins s (timeline_of s) b verses further) (apart a b order) columns_there in
       let below = until b keys order (omega (arith, within)) are in
-      let above = from b behind within more.keys in (
-        keys ++ behind,
-        keys_grow s (ticks s) a b keys behind order within all_same below above are more.keys,
-        columns_more (ticks s) a b s.measures keys behind order within below above (drawn_staves s) verses fits
+      let above = from b following within more.keys in (
+        keys ++ following,
+        keys_grow s (ticks s) a b keys following order within all_same below above are more.keys,
+        columns_more (ticks s) a b s.measures keys following order within below above (drawn_staves s) verses fits
             (bars b keys (omega (arith, within)) are)
             ∙ ap (λ t.
-            t ++ columns_of behind (map (measure_staff false behind (ticks s) b) (drawn_staves s)) (ticks s) verses)
+            t
+            ++ columns_of following (map (measure_staff false following (ticks s) b) (drawn_staves s)) (ticks s) verses)
             value
             ∙ ap (λ t. columns ++ t) (sym more.value),
       )

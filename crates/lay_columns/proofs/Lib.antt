@@ -1,4 +1,4 @@
-mod Behind
+mod Following
 pub mod Facts
 mod HeadKeys
 pub mod Joined

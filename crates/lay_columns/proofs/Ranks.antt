@@ -32,8 +32,8 @@ use Rattle.mus_drawn.specs.declared.drawn.DrawnMeasure.{DrawnMeasure}
 use Rattle.mus_drawn.specs.declared.drawn.Style.{Style}
 use Rattle.mus_drawn.specs.declared.standing.StaffState.{StaffState}
 use Rattle.mus_drawn.specs.Drawn.{drawn_events, drawn_measure, drawn_measures, drawn_voice, raise_of, standing_after}
-use Rattle.mus_drawn.specs.Drawn.{standing_behind, standing_of, style_of}
-use Rattle.{mus_time.specs.Columns.{note_key}, mus_marks.specs.Events.{levels_behind, levels_in}}
+use Rattle.mus_drawn.specs.Drawn.{staff_state_after, standing_of, style_of}
+use Rattle.{mus_time.specs.Columns.{note_key}, mus_marks.specs.Events.{levels_after, levels_in}}
 use Rattle.lay_columns.proofs.Slots.{Slot, bar_slots, change_slots, columns_slots, event_slots, events_slots}
 use Rattle.lay_columns.proofs.Slots.{first_slots, graces_slots, head_slots, measures_slots, slot, words_of}
 
@@ -50,17 +50,17 @@ rank_none b (y ∷ ys) k h from =
     ap (λ c. if c then 1 + key_rank ys k else key_rank ys k) (upper k y (omega (arith, h, f)))
     ∙ rank_none b ys k h from.1
 
-pub rank_front : (b : ℕ) (xs ys : List ColumnKey) (k : ColumnKey)
+pub rank_prefix : (b : ℕ) (xs ys : List ColumnKey) (k : ColumnKey)
     → k.measure < b → AllByRecursion (λ l. b ≤ l.measure) ys → key_rank (xs ++ ys) k ≡ key_rank xs k
-rank_front b [] ys k h from = rank_none b ys k h from
-rank_front b (x ∷ xs) ys k h from = ap (λ n. if is_below x k then 1 + n else n) (rank_front b xs ys k h from)
+rank_prefix b [] ys k h from = rank_none b ys k h from
+rank_prefix b (x ∷ xs) ys k h from = ap (λ n. if is_below x k then 1 + n else n) (rank_prefix b xs ys k h from)
 
-pub rank_behind : (b : ℕ) (xs ys : List ColumnKey) (k : ColumnKey)
+pub rank_after : (b : ℕ) (xs ys : List ColumnKey) (k : ColumnKey)
     → b ≤ k.measure → AllByRecursion (λ l. l.measure < b) xs → key_rank (xs ++ ys) k ≡ length xs + key_rank ys k
-rank_behind b [] ys k h to = omega arith
-rank_behind b (x ∷ xs) ys k h to =
+rank_after b [] ys k h to = omega arith
+rank_after b (x ∷ xs) ys k h to =
     let t = to.0 in
-    let more = rank_behind b xs ys k h to.1 in
+    let more = rank_after b xs ys k h to.1 in
     ap (λ c. if c then 1 + key_rank (xs ++ ys) k else key_rank (xs ++ ys) k) (lower x k (omega (arith, h, t)))
     ∙ omega (arith, more)
 
@@ -141,7 +141,7 @@ measures_fit lengths m style now [] h = tt
 measures_fit lengths m style now (x ∷ xs) h = (
   measure_ticks (slice_index lengths m) style now x
       (subst (λ z. total_ticks (flats_of x.body) ≤ slice_index lengths z) (omega arith) (h 0 (omega arith))),
-  measures_fit lengths (m + 1) style (standing_behind now (flats_of x.body)) xs
+  measures_fit lengths (m + 1) style (staff_state_after now (flats_of x.body)) xs
       (λ i k.
       subst (λ z. ticks_of_some (slice_get xs i) ≤ slice_index lengths z) (omega arith) (h (suc i) (omega (arith, k)))),
 )
@@ -225,9 +225,9 @@ module _ (lengths : List ℕ) (a b least : ℕ) (low : least ≤ 2) where
         → a ≤ m → m < b → Ticks (slice_index lengths m) es → AreIn (events_slots first m in_head group flags es)
     events_in m in_head group flags [] from to h = tt
     events_in m in_head group flags (e ∷ es) from to h =
-        both_in (event_slots first m in_head (levels_in e.plan group flags) (levels_behind e.plan es) e)
+        both_in (event_slots first m in_head (levels_in e.plan group flags) (levels_after e.plan es) e)
         (events_slots first m false e.plan.group e.plan.flags es)
-        (event_in m in_head (levels_in e.plan group flags) (levels_behind e.plan es) e from to h.0)
+        (event_in m in_head (levels_in e.plan group flags) (levels_after e.plan es) e from to h.0)
         (events_in m false e.plan.group e.plan.flags es from to h.1)
 
     pub measures_in : (m : ℕ) (in_head : Bool) (ds : List DrawnMeasure)

@@ -28,11 +28,11 @@ use Rattle.mus_drawn.specs.declared.drawn.DrawnMeasure.{DrawnMeasure}
 use Rattle.mus_drawn.specs.declared.drawn.DrawnVoice.{DrawnVoice}
 use Rattle.mus_bridges.specs.Bridges.{bridges_of}
 use Rattle.mus_marks.specs.Staff.{bare_marks, columns_part, first_bar_part, head_part, own_part, room_over}
-use Rattle.mus_marks.specs.Staff.{staff_bridges, staff_marks, staff_over, texts_behind, verses_on, written_parts}
+use Rattle.mus_marks.specs.Staff.{staff_bridges, staff_marks, staff_over, texts_after, verses_on, written_parts}
 use Rattle.mus_marks.specs.declared.events.WordRoom.{WordRoom}
 use Rattle.mus_marks.specs.declared.events.StaffRoom.{StaffRoom}
 use Rattle.mus_marks.specs.declared.events.TextCounts.{TextCounts}
-use Rattle.mus_marks.specs.Events.{bar_part, change_part, event_marks, events_marks, graces_part, levels_behind}
+use Rattle.mus_marks.specs.Events.{bar_part, change_part, event_marks, events_marks, graces_part, levels_after}
 use Rattle.mus_marks.specs.Events.{levels_in, measures_marks, note_part, note_rank, words_part}
 use Rattle.mus_marks.proofs.Columned.{columned_taken}
 use Rattle.lay_reaches.specs.Lanes.{lane_number}
@@ -134,7 +134,7 @@ module _ (x y : WordRoom) (same : y.first ≡ x.first) where
         (events_marks keys (Some y) m in_head group flags es)
     events_same m in_head group flags [] rank lane = refl
     events_same m in_head group flags (e ∷ es) rank lane =
-        let before = levels_in e.plan group flags in let after = levels_behind e.plan es in
+        let before = levels_in e.plan group flags in let after = levels_after e.plan es in
         same_append (event_marks keys (Some x) m in_head before after e)
         (event_marks keys (Some y) m in_head before after e)
         (events_marks keys (Some x) m false e.plan.group e.plan.flags es)
@@ -201,7 +201,7 @@ written_same keys lengths room a b first before (v ∷ vs) rank lane =
     let part = own_part keys lengths (Some place) a b v in
     let core = core_part keys lengths a b in
     ap (λ t. boxes_at rank lane part ++ t)
-    (written_same keys lengths room a b (first + v.verses) (texts_behind (length keys) before part) vs rank lane)
+    (written_same keys lengths room a b (first + v.verses) (texts_after (length keys) before part) vs rank lane)
     ∙ ap (λ t. t ++ boxes_at rank lane (parts_from core (first + v.verses) vs))
     (columns_same place (fixed_place first) refl keys lengths a v.seat v.first (slice_range v.measures a b) rank lane)
     ∙ sym (filter_map-append (box_at rank lane) (core first v) (parts_from core (first + v.verses) vs))

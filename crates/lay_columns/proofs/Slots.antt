@@ -29,7 +29,7 @@ use Rattle.mus_drawn.specs.declared.drawn.DrawnEvent.{DrawnEvent}
 use Rattle.mus_drawn.specs.declared.drawn.DrawnMeasure.{DrawnMeasure}
 use Rattle.mus_drawn.specs.Drawn.{raise_of}
 use Rattle.mus_time.specs.Columns.{note_key}
-use Rattle.mus_marks.specs.Events.{change_part, event_marks, events_marks, graces_from, levels_behind, levels_in}
+use Rattle.mus_marks.specs.Events.{change_part, event_marks, events_marks, graces_from, levels_after, levels_in}
 use Rattle.mus_marks.specs.Events.{measures_marks, no_texts, text_place}
 use Rattle.mus_marks.specs.Staff.{columns_part, head_part, meter_shown}
 use Rattle.lay_reaches.specs.{Joining.{IsBelow, moved, moved_mark}, Reaches.rank_of_mark as mark_rank}
@@ -131,7 +131,7 @@ event_slots first m in_head before after e =
 abbrev pub events_slots : ℕ → ℕ → Bool → ℕ → ℕ → List DrawnEvent → List Slot
 events_slots first m in_head group flags [] = []
 events_slots first m in_head group flags (e ∷ es) =
-    event_slots first m in_head (levels_in e.plan group flags) (levels_behind e.plan es) e
+    event_slots first m in_head (levels_in e.plan group flags) (levels_after e.plan es) e
     ++ events_slots first m false e.plan.group e.plan.flags es
 
 abbrev pub bar_slots : List ℕ → ℕ → DrawnMeasure → List Slot
@@ -205,9 +205,9 @@ module _ (keys : List ColumnKey) where
         ≡ lay keys (events_slots first m in_head group flags es)
     events_laid m in_head group flags [] = refl
     events_laid m in_head group flags (e ∷ es) =
-        both keys _ _ (event_slots first m in_head (levels_in e.plan group flags) (levels_behind e.plan es) e)
+        both keys _ _ (event_slots first m in_head (levels_in e.plan group flags) (levels_after e.plan es) e)
         (events_slots first m false e.plan.group e.plan.flags es)
-        (event_laid m in_head (levels_in e.plan group flags) (levels_behind e.plan es) e)
+        (event_laid m in_head (levels_in e.plan group flags) (levels_after e.plan es) e)
         (events_laid m false e.plan.group e.plan.flags es)
 
     pub measures_laid : (lengths : List ℕ) (m : ℕ) (in_head : Bool) (ds : List DrawnMeasure)

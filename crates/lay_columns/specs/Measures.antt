@@ -85,7 +85,7 @@ AreFurther s t m verses own =
 
 -- the last column is that of a bar
 pub record EndWithBar (columns : List Column) : Type 0 where
-  pub front : List Column
+  pub prefix : List Column
   pub last : Column
-  pub parts : columns ≡ front ++ last ∷ []
+  pub parts : columns ≡ prefix ++ last ∷ []
   pub bar : last.key.class ≡ Class.Bar

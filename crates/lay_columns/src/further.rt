@@ -75,7 +75,7 @@ pub fn further_of<'a>(m: u32, begun: &'a [Column], own: &'a Option<Row<Column>>)
     match own {
         Some(own) => own.as_slice(),
         None => match begun {
-            [_, behind @ ..] if m > 0 => behind,
+            [_, following @ ..] if m > 0 => following,
             _ => begun,
         },
     }

@@ -114,8 +114,8 @@ fn measure_staves(
 {
     let mut staves = Row::with_room(alloc, voices.len())?;
     let mut rest = voices;
-    'staves: while let [_, behind @ ..] = rest {
-        let count = lower_count(behind) + 1;
+    'staves: while let [_, following @ ..] = rest {
+        let count = lower_count(following) + 1;
         staves.push(measure_staff(alloc, frame, begins, &rest[..count])?)?;
         rest = &rest[count..];
     }

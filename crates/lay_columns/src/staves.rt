@@ -14,8 +14,8 @@ pub fn staff_verses(alloc: Global, voices: &[DrawnVoice<'_>]) -> Result<Row<u8>,
 {
     let mut verses = Row::new(alloc);
     let mut rest = voices;
-    'staves: while let [_, behind @ ..] = rest {
-        let count = lower_count(behind) + 1;
+    'staves: while let [_, following @ ..] = rest {
+        let count = lower_count(following) + 1;
         verses.push(verses_on(&rest[..count]))?;
         rest = &rest[count..];
     }

@@ -4,7 +4,7 @@ use Rattle.std.proofs.Common.{false, not, List, [], ◌∷◌, ◌++◌, append_
 use Rattle.std.proofs.lemmas.Bool.Decides.{nat_tests}
 use Rattle.std.proofs.lemmas.Int.{ints}
 use Rattle.std.specs.Prelude.{◌==◌, ◌&&◌, ◌||◌, nat_le, nat_lt, Option, Some, None}
-use Rattle.lay_pages.specs.Filling.{AreGoodBlocks, CanFollow, IsLoose, down_behind, first_place, height_number}
+use Rattle.lay_pages.specs.Filling.{AreGoodBlocks, CanFollow, IsLoose, down_after, first_place, height_number}
 use Rattle.lay_pages.specs.Filling.{with_kept, group_height, under, place_by, next_place, spot_at, spots_from}
 use Rattle.lay_pages.specs.Filling.{standing_from, tall_by, tall_from, AreWithin}
 use Rattle.lay_pages.specs.declared.filling.Block.{Block}
@@ -75,12 +75,12 @@ pub ready_next : (high : ℕ) (place : BlockSpot) (block next : Block) (more : L
 ready_next high place block next more ready =
     let here = not_tall (not ready.tied && nat_lt high (group_height (block ∷ next ∷ more))) ready.number
     (tall_from high (suc ready.number) block.keep (next ∷ more)) ready.none in
-    let behind = not_tall (not block.keep && nat_lt high (group_height (next ∷ more))) (suc ready.number)
+    let last_block = not_tall (not block.keep && nat_lt high (group_height (next ∷ more))) (suc ready.number)
     (tall_from high (suc (suc ready.number)) next.keep more) here.1 in
     record {
       fits =
           next_fits block.keep place.page place.down (height_number block.height) (group_height (next ∷ more)) high
-          ready.fits (fits_high block.keep high (group_height (next ∷ more)) behind.0);
+          ready.fits (fits_high block.keep high (group_height (next ∷ more)) last_block.0);
       number = suc ready.number;
       tied = block.keep;
       none = here.1;
@@ -144,27 +144,27 @@ pub some_of : (blocks : List Block) → false ≡ (length blocks == 0) → block
 some_of [] e h = cc
 some_of (block ∷ blocks) e h = cc
 
-pub first_room : (high : ℕ) (behind : Option PlacedBlock) (blocks : List Block)
-    → CanFollow behind → tall_from high 0 false blocks ≡ None
-    → (first_place high behind blocks).down + group_height blocks ≤ high
+pub first_room : (high : ℕ) (last_block : Option PlacedBlock) (blocks : List Block)
+    → CanFollow last_block → tall_from high 0 false blocks ≡ None
+    → (first_place high last_block blocks).down + group_height blocks ≤ high
 first_room high None blocks can none = (ready_first high blocks none).fits
 first_room high (Some last) blocks can none =
     let low = (ready_first high blocks none).fits in
     loose_room last.block.keep last.place.page (under last.place last.block) (group_height blocks) high can.keep
     (omega (arith, low))
 
-pub behind_within : (high : ℕ) (behind : Option PlacedBlock) (blocks : List Block) (place : BlockSpot)
+pub after_within : (high : ℕ) (last_block : Option PlacedBlock) (blocks : List Block) (place : BlockSpot)
     (spots : List Spot)
-    → place ≡ first_place high behind blocks → spots ≡ spots_from high place blocks
-    → AreGoodBlocks blocks → CanFollow behind → tall_from high 0 false blocks ≡ None → AreWithin high blocks spots
-behind_within high behind blocks place spots here at good can none =
+    → place ≡ first_place high last_block blocks → spots ≡ spots_from high place blocks
+    → AreGoodBlocks blocks → CanFollow last_block → tall_from high 0 false blocks ≡ None → AreWithin high blocks spots
+after_within high last_block blocks place spots here at good can none =
     subst (AreWithin high blocks) (sym (at ∙ ap (λ p. spots_from high p blocks) here))
-    (within_from high (first_place high behind blocks) blocks good
-    (record { fits = first_room high behind blocks can none; number = 0; tied = false; none = none }))
+    (within_from high (first_place high last_block blocks) blocks good
+    (record { fits = first_room high last_block blocks can none; number = 0; tied = false; none = none }))
 
 -- others may come after the last block if it is not tied
 pub end_of : (high most : ℕ) (place : BlockSpot) (blocks : List Block)
-    → AreGoodBlocks blocks → IsLoose blocks → down_behind (standing_from high place blocks) ≤ most → most ≤ 2 ^ 32
+    → AreGoodBlocks blocks → IsLoose blocks → down_after (standing_from high place blocks) ≤ most → most ≤ 2 ^ 32
     → CanFollow (standing_from high place blocks)
 end_of high most place [] good loose low few = tt
 end_of high most place (block ∷ []) good loose low few =

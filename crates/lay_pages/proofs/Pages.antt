@@ -9,8 +9,8 @@ use Rattle.std.proofs.Math.Seq.{drop-nil}
 use Rattle.std.specs.Prelude.{◌==◌, ◌&&◌, nat_le, if◌then◌else◌, IfOk, IsSome, Some, None, Result, Ok, Err}
 use Rattle.lay_breaks.specs.Breaking.{FitsFrom, IsChosen, NoneLegal, RisesFrom, last_from}
 use Rattle.lay_breaks.proofs.Unique.{one_is_chosen}
-use Rattle.lay_pages.specs.Even.{AreEven, AreFitting, AreHeights, AreSpots, StandByPages, ComesBehind, ComeBehind}
-use Rattle.lay_pages.specs.Even.{ends_behind, ends_page, groups_behind, filled, parted, group_heights, heights_from}
+use Rattle.lay_pages.specs.Even.{AreEven, AreFitting, AreHeights, AreSpots, StandByPages, ComesAfter, ComeAfter}
+use Rattle.lay_pages.specs.Even.{ends_after, ends_page, groups_after, filled, parted, group_heights, heights_from}
 use Rattle.lay_pages.specs.Even.{page_cost, page_height, parted_from, parted_spots, even_spot_after, span_height}
 use Rattle.lay_pages.specs.Even.{square, stacked, turns}
 use Rattle.lay_pages.specs.declared.filling.Block.{Block}
@@ -148,17 +148,17 @@ turn_fits : (high down group e n : ℕ) (ends : List ℕ) (h : ℤ) (hs : List �
 turn_fits high down group e zero ends h hs is turn more = subst (λ k. AreFitting high 0 k ends hs) is more
 turn_fits high down group e (suc n) ends h hs is turn more = absurd (grind (arith, nat_tests))
 
-pub fits_behind : (high group : ℕ) (ends : List ℕ) (place : BlockSpot) (block : Block) (more : List Block)
+pub fits_after : (high group : ℕ) (ends : List ℕ) (place : BlockSpot) (block : Block) (more : List Block)
     → AreFitting high place.down group ends (group_heights (block ∷ more))
-    → AreFitting high (even_spot_after (turns ends group block) place block).down (groups_behind group block)
-    (ends_behind (turns ends group block) ends) (group_heights more)
-fits_behind high group [] place block more fits = absurd cc
-fits_behind high group (e ∷ ends) place block more fits = by block.keep refl (e == group + 1) refl
+    → AreFitting high (even_spot_after (turns ends group block) place block).down (groups_after group block)
+    (ends_after (turns ends group block) ends) (group_heights more)
+fits_after high group [] place block more fits = absurd cc
+fits_after high group (e ∷ ends) place block more fits = by block.keep refl (e == group + 1) refl
   where
     Goal : Bool → Bool → Type 0
     Goal keep turn =
         AreFitting high (even_spot_after (not keep && turn) place block).down (if keep then group else group + 1)
-        (ends_behind (not keep && turn) (e ∷ ends)) (group_heights more)
+        (ends_after (not keep && turn) (e ∷ ends)) (group_heights more)
 
     loose : block.keep ≡ false
         → AreFitting high place.down group (e ∷ ends) (pos (height_number block.height) ∷ group_heights more)
@@ -177,43 +177,44 @@ fits_behind high group (e ∷ ends) place block more fits = by block.keep refl (
 pub parted_more : (high : ℕ) (ends later : List ℕ) (group next : ℕ) (place after : BlockSpot) (block : Block)
     (rest more : List Block) (spots new all : List Spot) (spot : Spot)
     → rest ≡ block ∷ more
-    → new ≡ spots ++ spot ∷ [] → spot ≡ spot_at high place → later ≡ ends_behind (turns ends group block) ends
-    → next ≡ groups_behind group block
+    → new ≡ spots ++ spot ∷ [] → spot ≡ spot_at high place → later ≡ ends_after (turns ends group block) ends
+    → next ≡ groups_after group block
     → after ≡ even_spot_after (turns ends group block) place block
     → spots ++ parted_from high ends group place rest ≡ all
     → new ++ parted_from high later next after more ≡ all
-parted_more high ends later group next place after block rest more spots new all spot cut pushed here behind count at
+parted_more high ends later group next place after block rest more spots new all spot cut pushed here last_block count
+    at
     so_far =
     ap (λ ss. ss ++ parted_from high later next after more) pushed
     ∙ append_assoc spots (spot ∷ []) (parted_from high later next after more)
     ∙ ap (λ s. spots ++ s ∷ parted_from high later next after more) here
-    ∙ ap (λ es. spots ++ spot_at high place ∷ parted_from high es next after more) behind
-    ∙ ap (λ g. spots ++ spot_at high place ∷ parted_from high (ends_behind (turns ends group block) ends) g after more)
+    ∙ ap (λ es. spots ++ spot_at high place ∷ parted_from high es next after more) last_block
+    ∙ ap (λ g. spots ++ spot_at high place ∷ parted_from high (ends_after (turns ends group block) ends) g after more)
     count
     ∙ ap (λ p.
     spots ++ spot_at high place
-    ∷ parted_from high (ends_behind (turns ends group block) ends) (groups_behind group block) p more)
+    ∷ parted_from high (ends_after (turns ends group block) ends) (groups_after group block) p more)
     at
     ∙ ap (λ bs. spots ++ parted_from high ends group place bs) (sym cut) ∙ so_far
 
 pub fits_more : (high : ℕ) (ends later : List ℕ) (group next : ℕ) (place after : BlockSpot) (block : Block)
     (rest more : List Block)
     → rest ≡ block ∷ more
-    → later ≡ ends_behind (turns ends group block) ends → next ≡ groups_behind group block
+    → later ≡ ends_after (turns ends group block) ends → next ≡ groups_after group block
     → after ≡ even_spot_after (turns ends group block) place block
     → AreFitting high place.down group ends (group_heights rest)
     → AreFitting high after.down next later (group_heights more)
-fits_more high ends later group next place after block rest more cut behind count at fits =
-    let fit = fits_behind high group ends place block more
+fits_more high ends later group next place after block rest more cut last_block count at fits =
+    let fit = fits_after high group ends place block more
     (subst (λ bs. AreFitting high place.down group ends (group_heights bs)) cut fits) in
     let now = subst
     (λ (p : BlockSpot).
-    AreFitting high p.down (groups_behind group block) (ends_behind (turns ends group block) ends) (group_heights more))
+    AreFitting high p.down (groups_after group block) (ends_after (turns ends group block) ends) (group_heights more))
     (sym at) fit in
     let ended = subst
-    (λ g. AreFitting high after.down g (ends_behind (turns ends group block) ends) (group_heights more)) (sym count)
+    (λ g. AreFitting high after.down g (ends_after (turns ends group block) ends) (group_heights more)) (sym count)
     now in
-    subst (λ es. AreFitting high after.down next es (group_heights more)) (sym behind) ended
+    subst (λ es. AreFitting high after.down next es (group_heights more)) (sym last_block) ended
 
 place_next : (turned : Bool) (place : BlockSpot) (block : Block)
     → (even_spot_after turned place block).page ≤ place.page + 1
@@ -229,7 +230,7 @@ pub page_next : (ends : List ℕ) (group : ℕ) (place after : BlockSpot) (block
 page_next ends group place after block at =
     subst (λ (p : BlockSpot). p.page ≤ place.page + 1) (sym at) (place_next (turns ends group block) place block)
 
-pub groups_next : (group next : ℕ) (block : Block) → next ≡ groups_behind group block → next ≤ group + 1
+pub groups_next : (group next : ℕ) (block : Block) → next ≡ groups_after group block → next ≤ group + 1
 groups_next group next block count = subst (λ n. n ≤ group + 1) (sym count) (count_next block.keep group)
 
 -- ---- so each block is on its page
@@ -252,49 +253,49 @@ parted_within high group ends place (block ∷ more) good fits = (
     top_within high place.down,
     bottom_within high place.down block.height good.0.0 (place_low high group ends place.down block more fits),
   ),
-  parted_within high (groups_behind group block) (ends_behind (turns ends group block) ends)
+  parted_within high (groups_after group block) (ends_after (turns ends group block) ends)
       (even_spot_after (turns ends group block) place block) more good.1
-      (fits_behind high group ends place block more fits),
+      (fits_after high group ends place block more fits),
 )
 
 -- ---- and comes after the one before it
 comes : (high : ℕ) (ends : List ℕ) (group : ℕ) (place : BlockSpot) (block : Block)
     → pos 0 ≤ℤ block.height
-    → ComesBehind high block (spot_at high place) (spot_at high (even_spot_after (turns ends group block) place block))
+    → ComesAfter high block (spot_at high place) (spot_at high (even_spot_after (turns ends group block) place block))
 comes high ends group place block good = by block.keep refl (ends_page ends group)
   where
     by : (keep : Bool) → block.keep ≡ keep → (turn : Bool)
-        → ComesBehind high block (spot_at high place) (spot_at high (even_spot_after (not keep && turn) place block))
+        → ComesAfter high block (spot_at high place) (spot_at high (even_spot_after (not keep && turn) place block))
     by true k turn = even.same_page refl (below high place.down block.height good)
     by false k false = even.same_page refl (below high place.down block.height good)
     by false k true = even.next_page k refl (at_top high)
 
-come_behind : (high : ℕ) (ends : List ℕ) (group : ℕ) (place : BlockSpot) (blocks : List Block)
-    → AreGoodBlocks blocks → ComeBehind high blocks (parted_from high ends group place blocks)
-come_behind high ends group place (block ∷ next ∷ more) good = (
+come_after : (high : ℕ) (ends : List ℕ) (group : ℕ) (place : BlockSpot) (blocks : List Block)
+    → AreGoodBlocks blocks → ComeAfter high blocks (parted_from high ends group place blocks)
+come_after high ends group place (block ∷ next ∷ more) good = (
   comes high ends group place block good.0.0,
-  come_behind high (ends_behind (turns ends group block) ends) (groups_behind group block)
+  come_after high (ends_after (turns ends group block) ends) (groups_after group block)
       (even_spot_after (turns ends group block) place block) (next ∷ more) good.1,
 )
-come_behind high ends group place blocks good = tt
+come_after high ends group place blocks good = tt
 
 pub parted_stacked : (high : ℕ) (breaks : List ℕ) (blocks : List Block)
     → AreGoodBlocks blocks → StandByPages high blocks (parted_spots high breaks blocks)
 parted_stacked high breaks [] good = (tt, tt)
 parted_stacked high breaks (block ∷ more) good =
-    ((refl, at_top high), come_behind high breaks 0 (record { page = 0; down = 0 }) (block ∷ more) good)
+    ((refl, at_top high), come_after high breaks 0 (record { page = 0; down = 0 }) (block ∷ more) good)
 
 -- the same of blocks that are filled
-filled_behind : (high : ℕ) (blocks : List Block) (spots : List Spot)
-    → FollowOn high blocks spots → length spots ≡ length blocks → ComeBehind high blocks spots
-filled_behind high (block ∷ []) (spot ∷ next ∷ spots) follow same = absurd (omega (arith, same))
-filled_behind high (block ∷ b ∷ more) (spot ∷ next ∷ spots) follow same =
-    (one follow.0, filled_behind high (b ∷ more) (next ∷ spots) follow.1 (omega (arith, same)))
+filled_after : (high : ℕ) (blocks : List Block) (spots : List Spot)
+    → FollowOn high blocks spots → length spots ≡ length blocks → ComeAfter high blocks spots
+filled_after high (block ∷ []) (spot ∷ next ∷ spots) follow same = absurd (omega (arith, same))
+filled_after high (block ∷ b ∷ more) (spot ∷ next ∷ spots) follow same =
+    (one follow.0, filled_after high (b ∷ more) (next ∷ spots) follow.1 (omega (arith, same)))
   where
-    one : Follows high block spot (b ∷ more) next → ComesBehind high block spot next
+    one : Follows high block spot (b ∷ more) next → ComesAfter high block spot next
     one (same_page page top) = even.same_page page top
     one (next_page loose past page top) = even.next_page loose page top
-filled_behind high blocks spots follow same = tt
+filled_after high blocks spots follow same = tt
 
 pub within_count : (high : ℕ) (blocks : List Block) (spots : List Spot)
     → AreWithin high blocks spots → length spots ≡ length blocks
@@ -305,7 +306,7 @@ within_count high blocks spots within = absurd within
 pub filled_stacked : (high : ℕ) (blocks : List Block) (spots : List Spot)
     → AreWithin high blocks spots → AreFilled high blocks spots → StandByPages high blocks spots
 filled_stacked high blocks spots within fill =
-    (fill.0, filled_behind high blocks spots fill.1 (within_count high blocks spots within))
+    (fill.0, filled_after high blocks spots fill.1 (within_count high blocks spots within))
 
 pub filled_if : (high : ℕ) (blocks : List Block) (r : Result (List Spot) PageError)
     → IfOk r (AreWithin high blocks) → IfOk r (AreFilled high blocks) → IfOk r (StandByPages high blocks)

@@ -3,8 +3,8 @@ use Rattle.std.proofs.Common.{◌≡◌, refl, sym, ap, ap₂, ◌∙◌, ℕ, s
 use Rattle.std.proofs.Common.{List, [], ◌∷◌, length, drop, get_or, add-one, drop-cons, arith, subst}
 use Rattle.std.proofs.lemmas.Int.{ints}
 use Rattle.mus_laid.specs.declared.laid.StaffMarks.{StaffMarks}
-use Rattle.lay_pages.specs.Stacking.{AreGoodStaves, AreStavesStacked, above_base, below_base, under_top, bases_behind}
-use Rattle.lay_pages.specs.Stacking.{bases_under, bottom_behind, bottom_under}
+use Rattle.lay_pages.specs.Stacking.{AreGoodStaves, AreStavesStacked, above_base, below_base, under_top, bases_after}
+use Rattle.lay_pages.specs.Stacking.{bases_under, bottom_after, bottom_under}
 
 at_top : (top base : ℕ) (high : ℤ)
     → base ≡ top + above_base high → pos 2000 ≤ℤ high → under_top base +ℤ high ≡ under_top top
@@ -20,9 +20,9 @@ at_bottom base bottom (negsuc n) down good = omega (arith, ints, down)
 pub one_more : (staves : List StaffMarks) (gaps : List ℕ) (n bottom base low : ℕ) (s : StaffMarks) (g : ℕ)
     → n < length staves → n < length gaps → s ≡ get_or staves n s → g ≡ get_or gaps n g
     → base ≡ bottom + g + above_base s.high → low ≡ base + below_base s.low
-    → (bases_behind bottom (drop n staves) (drop n gaps)
-    ≡ under_top base ∷ bases_behind low (drop (n + 1) staves) (drop (n + 1) gaps))
-    × (bottom_behind bottom (drop n staves) (drop n gaps) ≡ bottom_behind low (drop (n + 1) staves) (drop (n + 1) gaps))
+    → (bases_after bottom (drop n staves) (drop n gaps)
+    ≡ under_top base ∷ bases_after low (drop (n + 1) staves) (drop (n + 1) gaps))
+    × (bottom_after bottom (drop n staves) (drop n gaps) ≡ bottom_after low (drop (n + 1) staves) (drop (n + 1) gaps))
 one_more staves gaps n bottom base low s g l m es eg up down =
     let first : drop n staves ≡ s ∷ drop (n + 1) staves =
     rw (add-one, drop-cons staves n s) (ap (λ t. t ∷ drop (suc n) staves) (sym es)) in
@@ -31,10 +31,10 @@ one_more staves gaps n bottom base low s g l m es eg up down =
     let high : bottom + g + above_base s.high ≡ base = sym up in
     let under : bottom + g + above_base s.high + below_base s.low ≡ low =
     ap (λ n. n + below_base s.low) high ∙ sym down in (
-      ap₂ (bases_behind bottom) first second
-          ∙ ap₂ (λ b z. under_top b ∷ bases_behind z (drop (n + 1) staves) (drop (n + 1) gaps)) high under,
-      ap₂ (bottom_behind bottom) first second
-          ∙ ap (λ z. bottom_behind z (drop (n + 1) staves) (drop (n + 1) gaps)) under,
+      ap₂ (bases_after bottom) first second
+          ∙ ap₂ (λ b z. under_top b ∷ bases_after z (drop (n + 1) staves) (drop (n + 1) gaps)) high under,
+      ap₂ (bottom_after bottom) first second
+          ∙ ap (λ z. bottom_after z (drop (n + 1) staves) (drop (n + 1) gaps)) under,
     )
 
 further_down : (bottom gap : ℕ) → under_top bottom -ℤ pos gap ≡ under_top (bottom + gap)
@@ -44,15 +44,15 @@ further_down bottom gap = omega (arith, ints)
 stacked_from : (top base low : ℕ) (gaps : List ℕ) (staff : StaffMarks) (more : List StaffMarks)
     → base ≡ top + above_base staff.high → low ≡ base + below_base staff.low
     → length gaps ≡ length more → AreGoodStaves (staff ∷ more)
-    → AreStavesStacked (under_top top) gaps (staff ∷ more) (under_top base ∷ bases_behind low more gaps)
-    (under_top (bottom_behind low more gaps))
+    → AreStavesStacked (under_top top) gaps (staff ∷ more) (under_top base ∷ bases_after low more gaps)
+    (under_top (bottom_after low more gaps))
 stacked_from top base low [] staff [] up down count good =
     (at_top top base staff.high up good.0.1, at_bottom base low staff.low down good.0.0)
 stacked_from top base low (gap ∷ gaps) staff (next ∷ more) up down count good = (
   at_top top base staff.high up good.0.1,
   subst (λ z.
-      AreStavesStacked z gaps (next ∷ more) (bases_behind low (next ∷ more) (gap ∷ gaps))
-      (under_top (bottom_behind low (next ∷ more) (gap ∷ gaps))))
+      AreStavesStacked z gaps (next ∷ more) (bases_after low (next ∷ more) (gap ∷ gaps))
+      (under_top (bottom_after low (next ∷ more) (gap ∷ gaps))))
       (sym (further_down low gap) ∙ ap (λ z. z -ℤ pos gap) (at_bottom base low staff.low down good.0.0))
       (stacked_from (low + gap) (low + gap + above_base next.high)
       (low + gap + above_base next.high + below_base next.low) gaps next more refl refl (omega (arith, count)) good.1),

@@ -55,23 +55,23 @@ ends_page (e ∷ ends) group = e == group + 1
 abbrev pub turns : List ℕ → ℕ → Block → Bool
 turns ends group block = not block.keep && ends_page ends group
 
-abbrev pub ends_behind : Bool → List ℕ → List ℕ
-ends_behind true [] = []
-ends_behind true (e ∷ ends) = ends
-ends_behind false ends = ends
+abbrev pub ends_after : Bool → List ℕ → List ℕ
+ends_after true [] = []
+ends_after true (e ∷ ends) = ends
+ends_after false ends = ends
 
 abbrev pub even_spot_after : Bool → BlockSpot → Block → BlockSpot
 even_spot_after turned place block = place_by (not turned) place.page (under place block)
 
-abbrev pub groups_behind : ℕ → Block → ℕ
-groups_behind group block = if block.keep then group else group + 1
+abbrev pub groups_after : ℕ → Block → ℕ
+groups_after group block = if block.keep then group else group + 1
 
 -- the spots of blocks, the first of which has this spot
 abbrev pub parted_from : ℕ → List ℕ → ℕ → BlockSpot → List Block → List Spot
 parted_from high ends group place [] = []
 parted_from high ends group place (block ∷ more) =
     spot_at high place
-    ∷ parted_from high (ends_behind (turns ends group block) ends) (groups_behind group block)
+    ∷ parted_from high (ends_after (turns ends group block) ends) (groups_after group block)
     (even_spot_after (turns ends group block) place block) more
 
 abbrev pub parted_spots : ℕ → List ℕ → List Block → List Spot
@@ -104,17 +104,17 @@ pub data AreSpots (even : Bool) (high : ℕ) (blocks : List Block) (spots : List
 
 -- The block after another is 1500 under it on the same page, or at the top of the next page; two blocks of a group
 -- are never separated.
-pub data ComesBehind (high : ℕ) (block : Block) (spot : Spot) (next : Spot) : Type 0 where
-  same_page : next.page ≡ spot.page → next.top ≡ top_under block spot → ComesBehind high block spot next
-  next_page : block.keep ≡ false → next.page ≡ suc spot.page → next.top ≡ pos high → ComesBehind high block spot next
+pub data ComesAfter (high : ℕ) (block : Block) (spot : Spot) (next : Spot) : Type 0 where
+  same_page : next.page ≡ spot.page → next.top ≡ top_under block spot → ComesAfter high block spot next
+  next_page : block.keep ≡ false → next.page ≡ suc spot.page → next.top ≡ pos high → ComesAfter high block spot next
 
-abbrev pub ComeBehind : ℕ → List Block → List Spot → Type 0
-ComeBehind high (block ∷ blocks) (spot ∷ next ∷ spots) =
-    ComesBehind high block spot next × ComeBehind high blocks (next ∷ spots)
-ComeBehind high _ _ = ⊤
+abbrev pub ComeAfter : ℕ → List Block → List Spot → Type 0
+ComeAfter high (block ∷ blocks) (spot ∷ next ∷ spots) =
+    ComesAfter high block spot next × ComeAfter high blocks (next ∷ spots)
+ComeAfter high _ _ = ⊤
 
 abbrev pub StandByPages : ℕ → List Block → List Spot → Type 0
-StandByPages high blocks spots = BeginOn high spots × ComeBehind high blocks spots
+StandByPages high blocks spots = BeginOn high spots × ComeAfter high blocks spots
 
 -- Consequences of the form: the two laws of costs.
 stacked_more : (n m : ℕ) (hs : List ℤ) → n ≤ m → stacked (take n hs) ≤ stacked (take m hs)

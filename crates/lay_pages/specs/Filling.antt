@@ -63,12 +63,13 @@ abbrev pub first_place : ℕ → Option PlacedBlock → List Block → BlockSpot
 first_place high None blocks = record { page = 0; down = 0 }
 first_place high (Some last) blocks = next_place high last.place last.block blocks
 
-abbrev pub spots_behind : ℕ → Option PlacedBlock → List Block → List Spot
-spots_behind high behind blocks = spots_from high (first_place high behind blocks) blocks
+abbrev pub spots_after : ℕ → Option PlacedBlock → List Block → List Spot
+spots_after high last_block blocks = spots_from high (first_place high last_block blocks) blocks
 
-abbrev pub behind_after : ℕ → Option PlacedBlock → List Block → Option PlacedBlock
-behind_after high behind [] = behind
-behind_after high behind (block ∷ more) = standing_from high (first_place high behind (block ∷ more)) (block ∷ more)
+abbrev pub last_block_after : ℕ → Option PlacedBlock → List Block → Option PlacedBlock
+last_block_after high last_block [] = last_block
+last_block_after high last_block (block ∷ more) =
+    standing_from high (first_place high last_block (block ∷ more)) (block ∷ more)
 
 -- the last block is not tied to what comes after it
 abbrev pub IsLoose : List Block → Type 0
@@ -76,13 +77,13 @@ IsLoose [] = ⊤
 IsLoose (block ∷ []) = block.keep ≡ false
 IsLoose (block ∷ next ∷ more) = IsLoose (next ∷ more)
 
-abbrev pub page_behind : Option PlacedBlock → ℕ
-page_behind None = 0
-page_behind (Some last) = last.place.page
+abbrev pub page_after : Option PlacedBlock → ℕ
+page_after None = 0
+page_after (Some last) = last.place.page
 
-abbrev pub down_behind : Option PlacedBlock → ℕ
-down_behind None = 0
-down_behind (Some last) = last.place.down
+abbrev pub down_after : Option PlacedBlock → ℕ
+down_after None = 0
+down_after (Some last) = last.place.down
 
 -- others may come after it: it is not tied, and no higher than a block may be
 pub record IsOpenEnd (last : PlacedBlock) : Type 0 where

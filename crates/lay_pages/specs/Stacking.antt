@@ -29,25 +29,25 @@ abbrev pub under_top : ℕ → ℤ
 under_top down = pos 0 -ℤ pos down
 
 -- staves under one whose lowest mark is this far below the top
-abbrev pub bases_behind : ℕ → List StaffMarks → List ℕ → List ℤ
-bases_behind bottom [] gaps = []
-bases_behind bottom (staff ∷ more) [] = []
-bases_behind bottom (staff ∷ more) (gap ∷ gaps) =
+abbrev pub bases_after : ℕ → List StaffMarks → List ℕ → List ℤ
+bases_after bottom [] gaps = []
+bases_after bottom (staff ∷ more) [] = []
+bases_after bottom (staff ∷ more) (gap ∷ gaps) =
     under_top (bottom + gap + above_base staff.high)
-    ∷ bases_behind (bottom + gap + above_base staff.high + below_base staff.low) more gaps
+    ∷ bases_after (bottom + gap + above_base staff.high + below_base staff.low) more gaps
 
 abbrev pub bases_under : List StaffMarks → List ℕ → List ℤ
 bases_under [] gaps = []
 bases_under (staff ∷ more) gaps =
-    under_top (above_base staff.high) ∷ bases_behind (above_base staff.high + below_base staff.low) more gaps
+    under_top (above_base staff.high) ∷ bases_after (above_base staff.high + below_base staff.low) more gaps
 
 -- the lowest mark of the last staff
-abbrev pub bottom_behind : ℕ → List StaffMarks → List ℕ → ℕ
-bottom_behind bottom [] gaps = bottom
-bottom_behind bottom (staff ∷ more) [] = bottom
-bottom_behind bottom (staff ∷ more) (gap ∷ gaps) =
-    bottom_behind (bottom + gap + above_base staff.high + below_base staff.low) more gaps
+abbrev pub bottom_after : ℕ → List StaffMarks → List ℕ → ℕ
+bottom_after bottom [] gaps = bottom
+bottom_after bottom (staff ∷ more) [] = bottom
+bottom_after bottom (staff ∷ more) (gap ∷ gaps) =
+    bottom_after (bottom + gap + above_base staff.high + below_base staff.low) more gaps
 
 abbrev pub bottom_under : List StaffMarks → List ℕ → ℕ
 bottom_under [] gaps = 0
-bottom_under (staff ∷ more) gaps = bottom_behind (above_base staff.high + below_base staff.low) more gaps
+bottom_under (staff ∷ more) gaps = bottom_after (above_base staff.high + below_base staff.low) more gaps

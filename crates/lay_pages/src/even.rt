@@ -1,8 +1,8 @@
 ghost use Rattle.std.specs.Prelude.{◌≡◌, ◌<◌, ◌≤◌, ◌-◌, ◌^◌, pos, ◌≤ℤ◌, false, refl, true, All, length, IfOk, IfErr};
 ghost use Rattle.std.specs.Prelude.{None};
 ghost use Rattle.lay_breaks.specs.Breaking.{IsChosen};
-ghost use Rattle.lay_pages.specs.Even.{AreFitting, AreHeights, AreSpots, StandByPages, ends_behind, group_heights};
-ghost use Rattle.lay_pages.specs.Even.{groups_behind, cost_small, cost_stops, page_cost, page_height, parted_spots};
+ghost use Rattle.lay_pages.specs.Even.{AreFitting, AreHeights, AreSpots, StandByPages, ends_after, group_heights};
+ghost use Rattle.lay_pages.specs.Even.{groups_after, cost_small, cost_stops, page_cost, page_height, parted_spots};
 ghost use Rattle.lay_pages.specs.Even.{even_spot_after, turns};
 ghost use Rattle.lay_pages.specs.Filling.{AreGoodBlocks, AreWithin, IsPageError, first_tall};
 
@@ -117,8 +117,8 @@ fn turns(ends: &[u32], group: u32, block: Block) -> bool
 }
 
 /// Returns the ends of the pages after a block.
-fn ends_behind(turned: bool, ends: &[u32]) -> &[u32]
-    ensures { result.now ≡ ends_behind turned ends.now }
+fn ends_after(turned: bool, ends: &[u32]) -> &[u32]
+    ensures { result.now ≡ ends_after turned ends.now }
 {
     match ends.split_first() {
         Some((_, later)) if turned => later,
@@ -146,9 +146,9 @@ fn even_spot_after(turned: bool, place: BlockSpot, block: Block) -> BlockSpot
 }
 
 /// Returns the number of groups that end with a block or before it.
-fn groups_behind(group: u32, block: Block) -> u32
+fn groups_after(group: u32, block: Block) -> u32
     requires { group < 2 ^ 32 - 1 }
-    ensures { result ≡ groups_behind group block }
+    ensures { result ≡ groups_after group block }
 {
     if block.keep { group } else { group + 1 }
 }
@@ -168,9 +168,9 @@ fn part(alloc: Global, high: u32, breaks: &[u32], blocks: &[Block]) -> Result<Ro
     'placing: while let Some((block, more)) = rest.split_first() {
         spots.push(spot_at(high, place))?;
         let turned = turns(ends, group, *block);
-        ends = ends_behind(turned, ends);
+        ends = ends_after(turned, ends);
         place = even_spot_after(turned, place, *block);
-        group = groups_behind(group, *block);
+        group = groups_after(group, *block);
         rest = more;
     }
     Ok(spots)

@@ -1,7 +1,7 @@
 ghost use Rattle.std.specs.Prelude.{◌≡◌, ◌<◌, ◌≤◌, ◌+◌, ◌-◌, ◌*◌, ◌^◌, pos, ◌≤ℤ◌, nat_le, nat_lt, length, IfOk, IfErr};
 ghost use Rattle.std.specs.Prelude.{None};
-ghost use Rattle.lay_pages.specs.Filling.{AreGoodBlocks, CanFollow, IsLoose, behind_after, down_behind, first_place};
-ghost use Rattle.lay_pages.specs.Filling.{height_number, group_height, next_place, page_behind, spot_at, spots_behind};
+ghost use Rattle.lay_pages.specs.Filling.{AreGoodBlocks, CanFollow, IsLoose, last_block_after, down_after, first_place};
+ghost use Rattle.lay_pages.specs.Filling.{height_number, group_height, next_place, page_after, spot_at, spots_after};
 ghost use Rattle.lay_pages.specs.Filling.{spots_from, spots_of, standing_from, first_tall, AreWithin, AreFilled};
 ghost use Rattle.lay_pages.specs.Filling.{IsPageError};
 ghost use Rattle.lay_pages.specs.declared.filling.PageError.TheVariants as errors;
@@ -81,7 +81,7 @@ pub struct PlacedBlock {
 #[derive(Drop)]
 pub struct Placement {
     pub spots: Row<Spot>,
-    pub behind: Option<PlacedBlock>,
+    pub last_block: Option<PlacedBlock>,
 }
 
 pub(crate) fn height_number(height: i64) -> u64
@@ -183,14 +183,14 @@ pub(crate) fn spot_at(high: u32, place: BlockSpot) -> Spot
 }
 
 /// Returns the spot of the first of some blocks, which come after another block if there is one.
-fn first_place(high: u32, behind: Option<PlacedBlock>, blocks: &[Block]) -> BlockSpot
+fn first_place(high: u32, last_block: Option<PlacedBlock>, blocks: &[Block]) -> BlockSpot
     requires few { length blocks.now < 2 ^ 32 }
     requires good { AreGoodBlocks blocks.now }
-    requires behind { CanFollow behind }
-    requires page { page_behind behind < 2 ^ 32 - 1 }
-    ensures { result ≡ first_place high behind blocks.now }
+    requires last_block { CanFollow last_block }
+    requires page { page_after last_block < 2 ^ 32 - 1 }
+    ensures { result ≡ first_place high last_block blocks.now }
 {
-    match behind {
+    match last_block {
         Some(last) => next_place(high, last.place, last.block, blocks),
         None => BlockSpot { page: 0, down: 0 },
     }
@@ -208,8 +208,8 @@ fn spots_from(
     requires room { first.down + group_height blocks.now ≤ high }
     requires fits { first_tall high blocks.now ≡ None }
     ensures spots { IfOk result (λ f. f.spots ≡ spots_from high first blocks.now) }
-    ensures behind { IfOk result (λ f. f.behind ≡ standing_from high first blocks.now) }
-    ensures down { IfOk result (λ f. down_behind f.behind ≤ high) }
+    ensures last_block { IfOk result (λ f. f.last_block ≡ standing_from high first blocks.now) }
+    ensures down { IfOk result (λ f. down_after f.last_block ≤ high) }
 {
     let mut spots = Row::new(alloc);
     let mut place = first;
@@ -220,7 +220,7 @@ fn spots_from(
             let block = *block;
             return Ok(Placement {
                 spots,
-                behind: Some(PlacedBlock { place, block }),
+                last_block: Some(PlacedBlock { place, block }),
             });
         }
         place = next_place(high, place, *block, more);
@@ -228,21 +228,21 @@ fn spots_from(
     }
     Ok(Placement {
         spots,
-        behind: None,
+        last_block: None,
     })
 }
 
 /// Returns the number of pages before that of the last block.
-fn page_behind(behind: Option<PlacedBlock>) -> u32
-    ensures { result ≡ page_behind behind }
+fn page_after(last_block: Option<PlacedBlock>) -> u32
+    ensures { result ≡ page_after last_block }
 {
-    match behind {
+    match last_block {
         Some(last) => last.place.page,
         None => 0,
     }
 }
 
-/// Returns the spots of blocks that come after others, as `fill` places them. `behind` is the last
+/// Returns the spots of blocks that come after others, as `fill` places them. `last_block` is the last
 /// of the others and its spot; the result has the last block of all. So blocks may be placed a list
 /// at a time, if each list ends with a block that isn't tied to the next one.
 ///
@@ -251,27 +251,27 @@ fn page_behind(behind: Option<PlacedBlock>) -> u32
 pub fn fill_after(
     alloc: Global,
     high: u32,
-    behind: Option<PlacedBlock>,
+    last_block: Option<PlacedBlock>,
     blocks: &[Block],
 ) -> Result<Placement, Memory>
     requires good { AreGoodBlocks blocks.now }
     requires fits { first_tall high blocks.now ≡ None }
-    requires behind { CanFollow behind }
-    ensures spots { IfOk result (λ f. f.spots ≡ spots_behind high behind blocks.now) }
-    ensures behind { IfOk result (λ f. f.behind ≡ behind_after high behind blocks.now) }
+    requires last_block { CanFollow last_block }
+    ensures spots { IfOk result (λ f. f.spots ≡ spots_after high last_block blocks.now) }
+    ensures last_block { IfOk result (λ f. f.last_block ≡ last_block_after high last_block blocks.now) }
     ensures within { IfOk result (λ f. AreWithin high blocks.now f.spots) }
-    ensures follows { IfOk result (λ f. IsLoose blocks.now → CanFollow f.behind) }
+    ensures follows { IfOk result (λ f. IsLoose blocks.now → CanFollow f.last_block) }
 {
     if blocks.is_empty() {
         return Ok(Placement {
             spots: Row::new(alloc),
-            behind,
+            last_block,
         });
     }
-    if u64::from(page_behind(behind)) + blocks.len() as u64 >= u64::from(u32::MAX) {
+    if u64::from(page_after(last_block)) + blocks.len() as u64 >= u64::from(u32::MAX) {
         return Err(Memory);
     }
-    let place = first_place(high, behind, blocks);
+    let place = first_place(high, last_block, blocks);
     let filled = spots_from(alloc, high, place, blocks)?;
     Ok(filled)
 }

@@ -1,6 +1,6 @@
 ghost use Rattle.std.specs.Prelude.{◌≡◌, ◌≤◌, ◌-◌, ◌++◌, ◌^◌, pos, ◌-ℤ◌, ◌≤ℤ◌, length, IfOk, OnOk};
 ghost use Rattle.lay_pages.specs.Stacking.{AreGoodStaves, AreStavesStacked, above_base, below_base, under_top};
-ghost use Rattle.lay_pages.specs.Stacking.{bases_behind, bases_under, bottom_behind, bottom_under};
+ghost use Rattle.lay_pages.specs.Stacking.{bases_after, bases_under, bottom_after, bottom_under};
 
 use mus_laid::{StaffMarks, SystemMarks};
 use mus_units::{Memory, Row};
@@ -72,8 +72,8 @@ fn put_bases(
     requires few { length staves.now ≤ 16 }
     requires each { length gaps.now ≡ length staves.now }
     requires low { bottom ≤ 2 ^ 33 }
-    ensures bases { OnOk result (bases.new ≡ bases.old ++ bases_behind bottom staves.now gaps.now) }
-    ensures bottom { IfOk result (λ r. r ≡ bottom_behind bottom staves.now gaps.now) }
+    ensures bases { OnOk result (bases.new ≡ bases.old ++ bases_after bottom staves.now gaps.now) }
+    ensures bottom { IfOk result (λ r. r ≡ bottom_after bottom staves.now gaps.now) }
     ensures within { IfOk result (λ r. r ≤ 2 ^ 40) }
 {
     let mut bottom = bottom;

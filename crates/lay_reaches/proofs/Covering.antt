@@ -176,17 +176,17 @@ module _ (staves : List StaffMarks) (lengths verses : List ℕ) where
     where
       none : i < 0 → ⊥
       none l = omega (arith, l)
-  column_there first zero (key ∷ behind) l =
+  column_there first zero (key ∷ following) l =
       (_, stands_always key.class, refl, ap (λ t. reaches_of (stands_always key.class) t staves verses) (omega arith))
-  column_there first (suc i) (key ∷ behind) l = by (column_there (first + 1) i behind (omega (arith, l)))
+  column_there first (suc i) (key ∷ following) l = by (column_there (first + 1) i following (omega (arith, l)))
     where
       by : (c : Column)
           × (always : Bool)
-          × (slice_get (columns_from (first + 1) behind staves lengths verses) i ≡ Some c)
+          × (slice_get (columns_from (first + 1) following staves lengths verses) i ≡ Some c)
           × (c.reaches ≡ reaches_of always (first + 1 + i) staves verses)
           → (c : Column)
           × (always : Bool)
-          × (slice_get (columns_from (first + 1) behind staves lengths verses) i ≡ Some c)
+          × (slice_get (columns_from (first + 1) following staves lengths verses) i ≡ Some c)
           × (c.reaches ≡ reaches_of always (first + suc i) staves verses)
       by (c, always, e, f) = (c, always, e, f ∙ ap (λ t. reaches_of always t staves verses) (omega arith))
 

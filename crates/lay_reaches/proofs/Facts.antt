@@ -69,14 +69,15 @@ near_all always rank (staff ∷ staves) (v ∷ verses) =
 natural_near : (ticks : ℕ) → natural_for ticks ≤ 4000
 natural_near ticks = grind arith
 
-natural_small : (key : ColumnKey) (behind : List ColumnKey) (lengths : List ℕ) → natural_of key behind lengths ≤ 4000
-natural_small key behind lengths = by (is_note_key key)
+natural_small : (key : ColumnKey) (following : List ColumnKey) (lengths : List ℕ)
+    → natural_of key following lengths ≤ 4000
+natural_small key following lengths = by (is_note_key key)
   where
     by : (b : Bool)
-        → (if b then natural_for (tick_or_end key.measure (find (is_note_of key.measure) behind) lengths - key.tick)
+        → (if b then natural_for (tick_or_end key.measure (find (is_note_of key.measure) following) lengths - key.tick)
         else 0)
         ≤ 4000
-    by true = natural_near (tick_or_end key.measure (find (is_note_of key.measure) behind) lengths - key.tick)
+    by true = natural_near (tick_or_end key.measure (find (is_note_of key.measure) following) lengths - key.tick)
     by false = omega arith
 
 -- ---- uncut
@@ -152,52 +153,54 @@ stands_in reaches all lane l =
 -- ---- each column
 module _ (staves : List StaffMarks) (lengths verses : List ℕ) where
   abbrev column_at : ℕ → ColumnKey → List ColumnKey → Column
-  column_at rank key behind = record {
+  column_at rank key following = record {
     key = key;
     reaches = reaches_of (stands_always key.class) rank staves verses;
-    natural = natural_of key behind lengths;
+    natural = natural_of key following lengths;
   }
 
   all_columns : (P : Column → Type 0)
-      → ((rank : ℕ) (key : ColumnKey) (behind : List ColumnKey) → P (column_at rank key behind))
+      → ((rank : ℕ) (key : ColumnKey) (following : List ColumnKey) → P (column_at rank key following))
       → (rank : ℕ) (keys : List ColumnKey)
       → All P (columns_from rank keys staves lengths verses)
   all_columns P h rank [] = All-nil P
-  all_columns P h rank (key ∷ behind) =
-      All-cons P (column_at rank key behind) (columns_from (rank + 1) behind staves lengths verses) (h rank key behind)
-      (all_columns P h (rank + 1) behind)
+  all_columns P h rank (key ∷ following) =
+      All-cons P (column_at rank key following) (columns_from (rank + 1) following staves lengths verses)
+      (h rank key following)
+      (all_columns P h (rank + 1) following)
 
   pub columns_keys : (rank : ℕ) (keys : List ColumnKey)
       → map (λ c. c.key) (columns_from rank keys staves lengths verses) ≡ keys
   columns_keys rank [] = refl
-  columns_keys rank (key ∷ behind) = ap (λ t. key ∷ t) (columns_keys (rank + 1) behind)
+  columns_keys rank (key ∷ following) = ap (λ t. key ∷ t) (columns_keys (rank + 1) following)
 
   pub columns_small : (keys : List ColumnKey) → All IsSmall (columns_from 0 keys staves lengths verses)
   columns_small keys =
       all_columns IsSmall
-      (λ rank key behind. record {
-        natural = natural_small key behind lengths;
+      (λ rank key following. record {
+        natural = natural_small key following lengths;
         reaches = near_all (stands_always key.class) rank staves verses;
       }) 0 keys
 
   pub columns_uncut : (keys : List ColumnKey) → All IsUncut (columns_from 0 keys staves lengths verses)
-  columns_uncut keys = all_columns IsUncut (λ rank key behind. record {
+  columns_uncut keys = all_columns IsUncut (λ rank key following. record {
     reach = λ lane. reach_same _ lane (near_all (stands_always key.class) rank staves verses);
-    spring = λ force. spring_same _ force (natural_small key behind lengths);
+    spring = λ force. spring_same _ force (natural_small key following lengths);
   }) 0 keys
 
   pub columns_long : (keys : List ColumnKey)
       → length verses ≡ length staves
       → All (λ c. length c.reaches ≡ length (gaps_of verses)) (columns_from 0 keys staves lengths verses)
   columns_long keys h = all_columns (λ c. length c.reaches ≡ length (gaps_of verses))
-      (λ rank key behind. reaches_long (stands_always key.class) rank staves verses h) 0 keys
+      (λ rank key following. reaches_long (stands_always key.class) rank staves verses h) 0 keys
 
   pub columns_stand : (keys : List ColumnKey)
       → length verses ≡ length staves → All (StandsWhereDue verses) (columns_from 0 keys staves lengths verses)
   columns_stand keys h = all_columns (StandsWhereDue verses) by 0 keys
     where
-      by : (rank : ℕ) (key : ColumnKey) (behind : List ColumnKey) → StandsWhereDue verses (column_at rank key behind)
-      by rank key behind always =
+      by : (rank : ℕ) (key : ColumnKey) (following : List ColumnKey)
+          → StandsWhereDue verses (column_at rank key following)
+      by rank key following always =
           subst (λ n. StandsInAll (reach_in (reaches_of (stands_always key.class) rank staves verses)) n)
           (reaches_long (stands_always key.class) rank staves verses h)
           (stands_in (reaches_of (stands_always key.class) rank staves verses)

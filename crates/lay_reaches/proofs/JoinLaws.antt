@@ -39,8 +39,8 @@ reaches_both always n rank (x ∷ joined) [] second verses h = absurd h
 reaches_both always n rank (x ∷ joined) (a ∷ first) [] verses h = absurd h
 reaches_both always n rank (x ∷ joined) (a ∷ first) (b ∷ second) [] h = (λ l. refl, refl)
 reaches_both always n rank (x ∷ joined) (a ∷ first) (b ∷ second) (v ∷ verses) (h, more) =
-    let p = λ (l : rank < n). staff_same always rank rank x.marks a.marks v (λ lane. h.front rank lane l) in
-    let q = staff_same always (n + rank) rank x.marks b.marks v (λ lane. h.behind rank lane) in
+    let p = λ (l : rank < n). staff_same always rank rank x.marks a.marks v (λ lane. h.prefix rank lane l) in
+    let q = staff_same always (n + rank) rank x.marks b.marks v (λ lane. h.following rank lane) in
     let r = reaches_both always n rank joined first second verses more in (λ l. rw (p l, r.0 l) refl, rw (q, r.1) refl)
 
 -- ---- naturals
@@ -74,32 +74,32 @@ natural_more key keys more lengths h =
 
 -- ---- columns
 module _ (joined first second : List StaffMarks) (lengths verses : List ℕ) where
-  pub behind_same : (n rank : ℕ) (keys : List ColumnKey)
+  pub after_same : (n rank : ℕ) (keys : List ColumnKey)
       → StavesJoin n joined first second
       → columns_from (n + rank) keys joined lengths verses ≡ columns_from rank keys second lengths verses
-  behind_same n rank [] h = refl
-  behind_same n rank (key ∷ keys) h =
+  after_same n rank [] h = refl
+  after_same n rank (key ∷ keys) h =
       let e : n + rank + 1 ≡ n + (rank + 1) = omega arith in
       let r = (reaches_both (stands_always key.class) n rank joined first second verses h).1 in
-      let b = ap (λ t. columns_from t keys joined lengths verses) e ∙ behind_same n (rank + 1) keys h in rw (r, b) refl
+      let b = ap (λ t. columns_from t keys joined lengths verses) e ∙ after_same n (rank + 1) keys h in rw (r, b) refl
 
-  front_same : (n rank : ℕ) (keys more : List ColumnKey)
+  prefix_same : (n rank : ℕ) (keys more : List ColumnKey)
       → rank + length keys ≡ n → OfOtherMeasures keys more → StavesJoin n joined first second
       → columns_from rank (keys ++ more) joined lengths verses
       ≡ columns_from rank keys first lengths verses ++ columns_from 0 more second lengths verses
-  front_same n rank [] more e o h =
+  prefix_same n rank [] more e o h =
       let p : rank ≡ n + 0 = omega (arith, e) in
-      ap (λ t. columns_from t more joined lengths verses) p ∙ behind_same n 0 more h
-  front_same n rank (key ∷ keys) more e o h =
+      ap (λ t. columns_from t more joined lengths verses) p ∙ after_same n 0 more h
+  prefix_same n rank (key ∷ keys) more e o h =
       let r = (reaches_both (stands_always key.class) n rank joined first second verses h).0 (omega (arith, e)) in
       let s = natural_more key keys more lengths (All-head (λ k. All (λ l. l.measure ≢ k.measure) more) key keys o) in
-      let b = front_same n (rank + 1) keys more (omega (arith, e))
+      let b = prefix_same n (rank + 1) keys more (omega (arith, e))
       (All-tail (λ k. All (λ l. l.measure ≢ k.measure) more) key keys o) h in
       rw (r, s, b) refl
 
 pub columns_join : ColumnsJoin
-columns_join front behind joined first second lengths verses o h =
-    front_same joined first second lengths verses (length front) 0 front behind (omega arith) o h
+columns_join prefix following joined first second lengths verses o h =
+    prefix_same joined first second lengths verses (length prefix) 0 prefix following (omega arith) o h
 
 -- ---- marks
 boxes_none : (rank lane : ℕ) (xs : List Laid) → All (λ l. box_at rank lane l ≡ None) xs → boxes_at rank lane xs ≡ []
@@ -152,13 +152,13 @@ past_first n rank (Some r) h = grind (arith, h)
 
 pub marks_join : MarksJoin
 marks_join n first second loose below free = record {
-  front = λ rank lane l.
+  prefix = λ rank lane l.
       filter_map-append (box_at rank lane) (first ++ map (moved n) second) loose
       ∙ ap (λ t. t ++ boxes_at rank lane loose) (filter_map-append (box_at rank lane) first (map (moved n) second))
       ∙ ap (λ t. boxes_at rank lane first ++ t ++ boxes_at rank lane loose) (none_moved n rank lane second l)
       ∙ ap (λ t. boxes_at rank lane first ++ [] ++ t) (loose_none rank lane)
       ∙ append-nil (boxes_at rank lane first ++ []) ∙ append-nil (boxes_at rank lane first);
-  behind = λ rank lane.
+  following = λ rank lane.
       filter_map-append (box_at (n + rank) lane) (first ++ map (moved n) second) loose
       ∙ ap (λ t. t ++ boxes_at (n + rank) lane loose)
       (filter_map-append (box_at (n + rank) lane) first (map (moved n) second))

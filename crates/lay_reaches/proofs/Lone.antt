@@ -40,11 +40,11 @@ pub others : (lanes lane other : ℕ) (o : Option Reach)
     → other ≢ lane → get_or (set (replicate lanes None) lane o) other None ≡ None
 others lanes lane other o apart = get_or-set_other (replicate lanes None) lane other o None apart ∙ none_at lanes other
 
-pub lone_told : (lanes lane other : ℕ) (reach : Reach)
+pub lone_known : (lanes lane other : ℕ) (reach : Reach)
     → lane < lanes
     → (if other == lane then Some (cut_reach reach) else None)
     ≡ reach_in (set (replicate lanes None) lane (Some reach)) other
-lone_told lanes lane other reach inside = elim (cases_eq other lane) [
+lone_known lanes lane other reach inside = elim (cases_eq other lane) [
   | inl same ↦
       rw (same, eq-eqb lane lane refl)
       (sym (in_at _ lane ∙ ap (option_map cut_reach) (here lanes lane (Some reach) inside)))
@@ -53,10 +53,10 @@ lone_told lanes lane other reach inside = elim (cases_eq other lane) [
       (sym (in_at _ other ∙ ap (option_map cut_reach) (others lanes lane other (Some reach) apart)))
 ]
 
-pub none_told : (lanes lane other : ℕ) (o : Option Reach)
+pub none_reported : (lanes lane other : ℕ) (o : Option Reach)
     → get_or (set (replicate lanes None) lane o) other None ≡ None
     → reach_in [] other ≡ reach_in (set (replicate lanes None) lane o) other
-none_told lanes lane other o none = in_at [] other ∙ sym (in_at _ other ∙ ap (option_map cut_reach) none)
+none_reported lanes lane other o none = in_at [] other ∙ sym (in_at _ other ∙ ap (option_map cut_reach) none)
 
 pub nowhere : (lanes lane other : ℕ)
     → ◌≡◌ {A = Option Reach} (get_or (set (replicate lanes None) lane None) other None) None

@@ -36,22 +36,22 @@ row_next x row place box = by (nat_lt place (length row)) refl
 inside : (n : ℕ) → nat_lt 0 (suc n) ≡ true
 inside n = grind arith
 
-row_front : (row back : List (Option Reach)) (place : ℕ) (box : Sides)
+row_prefix : (row back : List (Option Reach)) (place : ℕ) (box : Sides)
     → place < length row → widened_row (row ++ back) place box ≡ widened_row row place box ++ back
-row_front row back place box l =
+row_prefix row back place box l =
     let long = length-append row back in
     let yes : nat_lt place (length row) ≡ true = grind (arith, l) in
     let all : nat_lt place (length (row ++ back)) ≡ true = grind (arith, l, long) in
     rw (yes, all, get_or-append row back None place l) (set-append_left row back place _ l)
 
-row_behind : (front row : List (Option Reach)) (place : ℕ) (box : Sides)
-    → widened_row (front ++ row) (length front + place) box ≡ front ++ widened_row row place box
-row_behind [] row place box = ap (λ t. widened_row row t box) (omega arith)
-row_behind (x ∷ front) row place box =
-    let e : suc (length front) + place ≡ suc (length front + place) = omega arith in
-    ap (λ t. widened_row (x ∷ (front ++ row)) t box) e
-    ∙ row_next x (front ++ row) (length front + place) box
-    ∙ ap (λ t. x ∷ t) (row_behind front row place box)
+row_after : (prefix row : List (Option Reach)) (place : ℕ) (box : Sides)
+    → widened_row (prefix ++ row) (length prefix + place) box ≡ prefix ++ widened_row row place box
+row_after [] row place box = ap (λ t. widened_row row t box) (omega arith)
+row_after (x ∷ prefix) row place box =
+    let e : suc (length prefix) + place ≡ suc (length prefix + place) = omega arith in
+    ap (λ t. widened_row (x ∷ (prefix ++ row)) t box) e
+    ∙ row_next x (prefix ++ row) (length prefix + place) box
+    ∙ ap (λ t. x ∷ t) (row_after prefix row place box)
 
 widened_stood : (always : Bool) (o : Option Reach) (box : Sides)
     → reach_widened (standing always o) box ≡ reach_widened o box
@@ -77,16 +77,16 @@ row_stood always (o ∷ row) (suc place) box =
 module _ (lengths : List ℕ) where
   abbrev made : (ℕ → Bool → List (Option Reach)) → ℕ → List ColumnKey → List Column
   made f rank [] = []
-  made f rank (key ∷ behind) =
-      record { key = key; reaches = f rank (stands_always key.class); natural = natural_of key behind lengths }
-      ∷ made f (rank + 1) behind
+  made f rank (key ∷ following) =
+      record { key = key; reaches = f rank (stands_always key.class); natural = natural_of key following lengths }
+      ∷ made f (rank + 1) following
 
   made_same : (f g : ℕ → Bool → List (Option Reach)) (rank : ℕ) (keys : List ColumnKey)
       → ((k : ℕ) (always : Bool) → rank ≤ k → f k always ≡ g k always) → made f rank keys ≡ made g rank keys
   made_same f g rank [] h = refl
-  made_same f g rank (key ∷ behind) h =
+  made_same f g rank (key ∷ following) h =
       let here = h rank (stands_always key.class) (omega arith) in
-      let rest = made_same f g (rank + 1) behind (λ k always l. h k always (omega (arith, l))) in
+      let rest = made_same f g (rank + 1) following (λ k always l. h k always (omega (arith, l))) in
       rw (here, rest) refl
 
   at_next : (c : Column) (columns : List Column) (rank place : ℕ) (box : Sides) (o : Option Column)
@@ -101,27 +101,27 @@ module _ (lengths : List ℕ) where
       → widened_at (made f first keys) i place box ≡ made g first keys
   made_widened f g r place box here apart first zero [] e = refl
   made_widened f g r place box here apart first (suc i) [] e = refl
-  made_widened f g r place box here apart first zero (key ∷ behind) e =
+  made_widened f g r place box here apart first zero (key ∷ following) e =
       let at : first ≡ r = omega (arith, e) in
       let head : widened_row (f first (stands_always key.class)) place box ≡ g first (stands_always key.class) =
       subst (λ t. widened_row (f t (stands_always key.class)) place box ≡ g t (stands_always key.class)) (sym at)
       (here (stands_always key.class)) in
-      let rest = made_same f g (first + 1) behind (λ k always l. apart k always (omega (arith, l, at))) in
+      let rest = made_same f g (first + 1) following (λ k always l. apart k always (omega (arith, l, at))) in
       rw (head, rest) refl
-  made_widened f g r place box here apart first (suc i) (key ∷ behind) e =
+  made_widened f g r place box here apart first (suc i) (key ∷ following) e =
       let head = apart first (stands_always key.class) (omega (arith, e)) in
-      let rest = made_widened f g r place box here apart (first + 1) i behind (omega (arith, e)) in
-      at_next _ (made f (first + 1) behind) i place box _ ∙ rw (head, rest) refl
+      let rest = made_widened f g r place box here apart (first + 1) i following (omega (arith, e)) in
+      at_next _ (made f (first + 1) following) i place box _ ∙ rw (head, rest) refl
 
   -- ---- the lanes of a staff, with those before and after them
-  module _ (keys : List ColumnKey) (front : ℕ → Bool → List (Option Reach)) (back : Bool → List (Option Reach))
-      (start lanes : ℕ) (long : (k : ℕ) (always : Bool) → length (front k always) ≡ start) where
+  module _ (keys : List ColumnKey) (prefix : ℕ → Bool → List (Option Reach)) (back : Bool → List (Option Reach))
+      (start lanes : ℕ) (long : (k : ℕ) (always : Bool) → length (prefix k always) ≡ start) where
     abbrev framed : List Laid → ℕ → Bool → List (Option Reach)
-    framed marks k always = front k always ++ (map (standing always) (drawn_row marks lanes k) ++ back always)
+    framed marks k always = prefix k always ++ (map (standing always) (drawn_row marks lanes k) ++ back always)
 
     frame_same : (marks more : List Laid) (k : ℕ) (always : Bool)
         → drawn_row marks lanes k ≡ drawn_row more lanes k → framed marks k always ≡ framed more k always
-    frame_same marks more k always e = ap (λ t. front k always ++ (map (standing always) t ++ back always)) e
+    frame_same marks more k always e = ap (λ t. prefix k always ++ (map (standing always) t ++ back always)) e
 
     frame_widened : (marks more : List Laid) (k place : ℕ) (box : Sides) (always : Bool)
         → place < lanes → widened_row (drawn_row marks lanes k) place box ≡ drawn_row more lanes k
@@ -131,9 +131,9 @@ module _ (lengths : List ℕ) where
         let inside : place < length stood = subst (λ t. place < t)
         (sym (length-map (drawn_row marks lanes k) (standing always) ∙ row_length marks lanes k)) l in
         ap (λ t. widened_row (framed marks k always) (t + place) box) (sym (long k always))
-        ∙ row_behind (front k always) (stood ++ back always) place box
-        ∙ ap (λ t. front k always ++ t) (row_front stood (back always) place box inside)
-        ∙ ap (λ t. front k always ++ (t ++ back always))
+        ∙ row_after (prefix k always) (stood ++ back always) place box
+        ∙ ap (λ t. prefix k always ++ t) (row_prefix stood (back always) place box inside)
+        ∙ ap (λ t. prefix k always ++ (t ++ back always))
         (row_stood always (drawn_row marks lanes k) place box ∙ ap (λ t. map (standing always) t) e)
 
     still : (marks : List Laid) (laid : Laid)
@@ -216,42 +216,42 @@ module _ (lengths : List ℕ) where
       stood a zero = refl
       stood a (suc n) = ap (λ t. standing always None ∷ t) (stood (a + 1) n)
 
-  staves_from : (keys : List ColumnKey) (front : ℕ → Bool → List (Option Reach)) (start : ℕ)
-      → ((k : ℕ) (always : Bool) → length (front k always) ≡ start)
+  staves_from : (keys : List ColumnKey) (prefix : ℕ → Bool → List (Option Reach)) (start : ℕ)
+      → ((k : ℕ) (always : Bool) → length (prefix k always) ≡ start)
       → (staves : List StaffMarks) (verses : List ℕ) → length verses ≡ length staves
       → widened_by_staves
-      (made (λ k always. front k always ++ replicate (lanes_of verses) (standing always None)) 0 keys) start staves
+      (made (λ k always. prefix k always ++ replicate (lanes_of verses) (standing always None)) 0 keys) start staves
       verses
-      ≡ made (λ k always. front k always ++ reaches_of always k staves verses) 0 keys
-  staves_from keys front start long [] [] h = refl
-  staves_from keys front start long [] (v ∷ verses) h = grind (arith, h)
-  staves_from keys front start long (staff ∷ staves) [] h = grind (arith, h)
-  staves_from keys front start long (staff ∷ staves) (v ∷ verses) h =
+      ≡ made (λ k always. prefix k always ++ reaches_of always k staves verses) 0 keys
+  staves_from keys prefix start long [] [] h = refl
+  staves_from keys prefix start long [] (v ∷ verses) h = grind (arith, h)
+  staves_from keys prefix start long (staff ∷ staves) [] h = grind (arith, h)
+  staves_from keys prefix start long (staff ∷ staves) (v ∷ verses) h =
       ap (λ t.
       widened_by_staves (widened_by_marks t start (lane_count v) staff.marks) (start + lane_count v) staves verses)
-      (made_same _ (framed keys front back start (lane_count v) long []) 0 keys
+      (made_same _ (framed keys prefix back start (lane_count v) long []) 0 keys
       (λ k always l.
-      ap (λ t. front k always ++ t)
+      ap (λ t. prefix k always ++ t)
       (sym (replicate-append-replicate (lane_count v) (lanes_of verses) (standing always None))
       ∙ ap (λ t. t ++ back always) (bare_row always (lane_count v) k))))
       ∙ ap (λ t. widened_by_staves t (start + lane_count v) staves verses)
-      (marks_from keys front back start (lane_count v) long [] staff.marks)
+      (marks_from keys prefix back start (lane_count v) long [] staff.marks)
       ∙ ap (λ t. widened_by_staves t (start + lane_count v) staves verses)
-      (made_same _ (λ k always. front' k always ++ back always) 0 keys
-      (λ k always l. sym (append_assoc (front k always) (staff_reaches always k staff.marks v) (back always))))
-      ∙ staves_from keys front' (start + lane_count v) long' staves verses (omega (arith, h))
+      (made_same _ (λ k always. prefix' k always ++ back always) 0 keys
+      (λ k always l. sym (append_assoc (prefix k always) (staff_reaches always k staff.marks v) (back always))))
+      ∙ staves_from keys prefix' (start + lane_count v) long' staves verses (omega (arith, h))
       ∙ made_same _ _ 0 keys (λ k always l.
-      append_assoc (front k always) (staff_reaches always k staff.marks v) (reaches_of always k staves verses))
+      append_assoc (prefix k always) (staff_reaches always k staff.marks v) (reaches_of always k staves verses))
     where
       back : Bool → List (Option Reach)
       back always = replicate (lanes_of verses) (standing always None)
 
-      front' : ℕ → Bool → List (Option Reach)
-      front' k always = front k always ++ staff_reaches always k staff.marks v
+      prefix' : ℕ → Bool → List (Option Reach)
+      prefix' k always = prefix k always ++ staff_reaches always k staff.marks v
 
-      long' : (k : ℕ) (always : Bool) → length (front' k always) ≡ start + lane_count v
+      long' : (k : ℕ) (always : Bool) → length (prefix' k always) ≡ start + lane_count v
       long' k always =
-          let a = length-append (front k always) (staff_reaches always k staff.marks v) in
+          let a = length-append (prefix k always) (staff_reaches always k staff.marks v) in
           let b = long k always in
           let c = row_long always k staff.marks v in
           omega (arith, a, b, c)
@@ -259,21 +259,21 @@ module _ (lengths : List ℕ) where
   bare_made : (n rank : ℕ) (keys : List ColumnKey)
       → bare_columns keys lengths n ≡ made (λ k always. replicate n (standing always None)) rank keys
   bare_made n rank [] = refl
-  bare_made n rank (key ∷ behind) = let e = bare_made n (rank + 1) behind in rw e refl
+  bare_made n rank (key ∷ following) = let e = bare_made n (rank + 1) following in rw e refl
 
   from_made : (staves : List StaffMarks) (verses : List ℕ) (rank : ℕ) (keys : List ColumnKey)
       → made (λ k always. reaches_of always k staves verses) rank keys ≡ columns_from rank keys staves lengths verses
   from_made staves verses rank [] = refl
-  from_made staves verses rank (key ∷ behind) = let e = from_made staves verses (rank + 1) behind in rw e refl
+  from_made staves verses rank (key ∷ following) = let e = from_made staves verses (rank + 1) following in rw e refl
 
   pub bare_long : (n : ℕ) (keys : List ColumnKey) → length (bare_columns keys lengths n) ≡ length keys
   bare_long n [] = refl
-  bare_long n (key ∷ behind) = ap (λ t. suc t) (bare_long n behind)
+  bare_long n (key ∷ following) = ap (λ t. suc t) (bare_long n following)
 
   pub columns_many : (staves : List StaffMarks) (verses : List ℕ) (rank : ℕ) (keys : List ColumnKey)
       → length (columns_from rank keys staves lengths verses) ≡ length keys
   columns_many staves verses rank [] = refl
-  columns_many staves verses rank (key ∷ behind) = ap (λ t. suc t) (columns_many staves verses (rank + 1) behind)
+  columns_many staves verses rank (key ∷ following) = ap (λ t. suc t) (columns_many staves verses (rank + 1) following)
 
   pub columns_are : (keys : List ColumnKey) (staves : List StaffMarks) (verses : List ℕ) → length verses ≡ length staves
       → widened_by_staves (bare_columns keys lengths (lanes_of verses)) 0 staves verses

@@ -20,11 +20,11 @@ use Rattle.lay_reaches.specs.Reaches.{rank_of_mark, reaches_of, stands_always}
 -- keys from some rank on
 abbrev pub columns_from : ℕ → List ColumnKey → List StaffMarks → List ℕ → List ℕ → List Column
 columns_from rank [] staves lengths verses = []
-columns_from rank (key ∷ behind) staves lengths verses = record {
+columns_from rank (key ∷ following) staves lengths verses = record {
   key = key;
   reaches = reaches_of (stands_always key.class) rank staves verses;
-  natural = natural_of key behind lengths;
-} ∷ columns_from (rank + 1) behind staves lengths verses
+  natural = natural_of key following lengths;
+} ∷ columns_from (rank + 1) following staves lengths verses
 
 abbrev pub columns_of : List ColumnKey → List StaffMarks → List ℕ → List ℕ → List Column
 columns_of keys staves lengths verses = columns_from 0 keys staves lengths verses

@@ -10,8 +10,8 @@ use Rattle.lay_reaches.specs.{Columns.columns_of, Reaches.boxes_at, Reaches.rank
 -- the marks of a staff have the boxes of the first marks in the first n columns, and after them the boxes of the
 -- second
 pub record AreJoined (n : ℕ) (joined first second : List Laid) : Type 0 where
-  pub front : (rank lane : ℕ) → rank < n → boxes_at rank lane joined ≡ boxes_at rank lane first
-  pub behind : (rank lane : ℕ) → boxes_at (n + rank) lane joined ≡ boxes_at rank lane second
+  pub prefix : (rank lane : ℕ) → rank < n → boxes_at rank lane joined ≡ boxes_at rank lane first
+  pub following : (rank lane : ℕ) → boxes_at (n + rank) lane joined ≡ boxes_at rank lane second
 
 -- staff by staff
 abbrev pub StavesJoin : ℕ → List StaffMarks → List StaffMarks → List StaffMarks → Type 0
@@ -25,14 +25,14 @@ StavesJoin n (x ∷ joined) (a ∷ first) (b ∷ second) =
 
 -- no key of one list is of a measure of the other
 abbrev pub OfOtherMeasures : List ColumnKey → List ColumnKey → Type 0
-OfOtherMeasures front behind = All (λ k. All (λ l. l.measure ≢ k.measure) behind) front
+OfOtherMeasures prefix following = All (λ k. All (λ l. l.measure ≢ k.measure) following) prefix
 
 abbrev pub ColumnsJoin : Type 0
 ColumnsJoin =
-    (front behind : List ColumnKey) (joined first second : List StaffMarks) (lengths verses : List ℕ)
-    → OfOtherMeasures front behind → StavesJoin (length front) joined first second
-    → columns_of (front ++ behind) joined lengths verses
-    ≡ columns_of front first lengths verses ++ columns_of behind second lengths verses
+    (prefix following : List ColumnKey) (joined first second : List StaffMarks) (lengths verses : List ℕ)
+    → OfOtherMeasures prefix following → StavesJoin (length prefix) joined first second
+    → columns_of (prefix ++ following) joined lengths verses
+    ≡ columns_of prefix first lengths verses ++ columns_of following second lengths verses
 
 -- a mark, moved n columns further on
 abbrev pub moved_mark : ℕ → Mark → Mark

@@ -40,7 +40,7 @@ tick_or_end measure (Some next) lengths = next.tick
 
 -- of a key, given the keys after it
 abbrev pub natural_of : ColumnKey → List ColumnKey → List ℕ → ℕ
-natural_of key behind lengths =
+natural_of key following lengths =
     if is_note_key key
-    then natural_for (tick_or_end key.measure (find (is_note_of key.measure) behind) lengths - key.tick)
+    then natural_for (tick_or_end key.measure (find (is_note_of key.measure) following) lengths - key.tick)
     else 0

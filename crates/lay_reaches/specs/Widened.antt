@@ -21,8 +21,8 @@ bare_column key natural lanes =
 
 abbrev pub bare_columns : List ColumnKey → List ℕ → ℕ → List Column
 bare_columns [] lengths lanes = []
-bare_columns (key ∷ behind) lengths lanes =
-    bare_column key (natural_of key behind lengths) lanes ∷ bare_columns behind lengths lanes
+bare_columns (key ∷ following) lengths lanes =
+    bare_column key (natural_of key following lengths) lanes ∷ bare_columns following lengths lanes
 
 -- widened to cover a box too
 abbrev pub reach_widened : Option Reach → Sides → Reach

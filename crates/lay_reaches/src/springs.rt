@@ -42,10 +42,10 @@ fn is_note_of(measure: u32, key: ColumnKey) -> bool
     is_note_key(key) && key.measure == measure
 }
 
-fn next_note(measure: u32, behind: &[ColumnKey]) -> Option<ColumnKey>
-    ensures { result ≡ find (is_note_of measure) behind.now }
+fn next_note(measure: u32, following: &[ColumnKey]) -> Option<ColumnKey>
+    ensures { result ≡ find (is_note_of measure) following.now }
 {
-    for key in behind {
+    for key in following {
         if is_note_of(measure, *key) {
             return Some(*key);
         }
@@ -71,11 +71,11 @@ fn tick_or_end(measure: u32, next: Option<ColumnKey>, lengths: &[u64]) -> u64
 /// Returns the natural length of the spring from a column to the next. It depends on the ticks from
 /// a note column to the next one of its measure, or else to the measure's end. It is 0 for all
 /// other columns.
-pub(crate) fn natural_of(key: ColumnKey, behind: &[ColumnKey], lengths: &[u64]) -> u32
-    ensures { result ≡ natural_of key behind.now lengths.now }
+pub(crate) fn natural_of(key: ColumnKey, following: &[ColumnKey], lengths: &[u64]) -> u32
+    ensures { result ≡ natural_of key following.now lengths.now }
 {
     if is_note_key(key) {
-        let end = tick_or_end(key.measure, next_note(key.measure, behind), lengths);
+        let end = tick_or_end(key.measure, next_note(key.measure, following), lengths);
         natural_for(end.saturating_sub(key.tick))
     } else {
         0

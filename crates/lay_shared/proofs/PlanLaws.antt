@@ -65,41 +65,41 @@ is-once [] h = refl
 is-once (v ∷ vs) h = let here = same-none v vs h.0 in let more = is-once vs h.1 in rw (here, more) refl
 
 -- ---- the voices of trees
-known_voices : (vs : List ℕ) (behind : List PlanSign)
-    → list_all is_known behind ≡ true → list_all is_known (voice_signs vs behind) ≡ true
-known_voices [] behind h = h
-known_voices (v ∷ vs) behind h = known_voices vs behind h
+known_voices : (vs : List ℕ) (following : List PlanSign)
+    → list_all is_known following ≡ true → list_all is_known (voice_signs vs following) ≡ true
+known_voices [] following h = h
+known_voices (v ∷ vs) following h = known_voices vs following h
 
-known-trees : (trees : Trees) (behind : List PlanSign)
-    → list_all is_known behind ≡ true → list_all is_known (tree_signs trees behind) ≡ true
-known-trees no_tree behind h = h
-known-trees (voice_tree v more) behind h = known-trees more behind h
-known-trees (staff_tree v vs more) behind h =
-    known_voices vs (PlanSign.StaffEnds ∷ tree_signs more behind) (known-trees more behind h)
-known-trees (group_tree b inner more) behind h =
-    known-trees inner (PlanSign.Ends b ∷ tree_signs more behind) (known-trees more behind h)
+known-trees : (trees : Trees) (following : List PlanSign)
+    → list_all is_known following ≡ true → list_all is_known (tree_signs trees following) ≡ true
+known-trees no_tree following h = h
+known-trees (voice_tree v more) following h = known-trees more following h
+known-trees (staff_tree v vs more) following h =
+    known_voices vs (PlanSign.StaffEnds ∷ tree_signs more following) (known-trees more following h)
+known-trees (group_tree b inner more) following h =
+    known-trees inner (PlanSign.Ends b ∷ tree_signs more following) (known-trees more following h)
 
 abbrev joined : List (List ℕ) → List ℕ
 joined shares = flat_map (λ vs. vs) shares
 
-named-voices : (vs : List ℕ) (behind : List PlanSign) → named (voice_signs vs behind) ≡ vs ++ named behind
-named-voices [] behind = refl
-named-voices (v ∷ vs) behind = ap (λ s. v ∷ s) (named-voices vs behind)
+named-voices : (vs : List ℕ) (following : List PlanSign) → named (voice_signs vs following) ≡ vs ++ named following
+named-voices [] following = refl
+named-voices (v ∷ vs) following = ap (λ s. v ∷ s) (named-voices vs following)
 
-named-trees : (trees : Trees) (behind : List PlanSign)
-    → named (tree_signs trees behind) ≡ joined (shares_of trees) ++ named behind
-named-trees no_tree behind = refl
-named-trees (voice_tree v more) behind = ap (λ s. v ∷ s) (named-trees more behind)
-named-trees (staff_tree v vs more) behind =
+named-trees : (trees : Trees) (following : List PlanSign)
+    → named (tree_signs trees following) ≡ joined (shares_of trees) ++ named following
+named-trees no_tree following = refl
+named-trees (voice_tree v more) following = ap (λ s. v ∷ s) (named-trees more following)
+named-trees (staff_tree v vs more) following =
     ap (λ s. v ∷ s)
-    (named-voices vs (PlanSign.StaffEnds ∷ tree_signs more behind)
-    ∙ ap (λ s. vs ++ s) (named-trees more behind)
-    ∙ sym (append_assoc vs (joined (shares_of more)) (named behind)))
-named-trees (group_tree b inner more) behind =
-    named-trees inner (PlanSign.Ends b ∷ tree_signs more behind)
-    ∙ ap (λ s. joined (shares_of inner) ++ s) (named-trees more behind)
-    ∙ sym (append_assoc (joined (shares_of inner)) (joined (shares_of more)) (named behind))
-    ∙ ap (λ s. s ++ named behind) (sym (flat_map-append (λ vs. vs) (shares_of inner) (shares_of more)))
+    (named-voices vs (PlanSign.StaffEnds ∷ tree_signs more following)
+    ∙ ap (λ s. vs ++ s) (named-trees more following)
+    ∙ sym (append_assoc vs (joined (shares_of more)) (named following)))
+named-trees (group_tree b inner more) following =
+    named-trees inner (PlanSign.Ends b ∷ tree_signs more following)
+    ∙ ap (λ s. joined (shares_of inner) ++ s) (named-trees more following)
+    ∙ sym (append_assoc (joined (shares_of inner)) (joined (shares_of more)) (named following))
+    ∙ ap (λ s. s ++ named following) (sym (flat_map-append (λ vs. vs) (shares_of inner) (shares_of more)))
 
 voices-group : (leads : Bool) (shares : List (List ℕ)) → planned_voices (staves_of_group leads shares) ≡ joined shares
 voices-group leads [] = refl
@@ -126,10 +126,10 @@ plan-names trees ss e =
 named-known : (ids : List (List ℕ)) (ss : List PlanSign) (text : List ℕ)
     → Writes ids ss text → AllByRecursion (λ v. v < length ids) (named ss)
 named-known ids [] text h = tt
-named-known ids (PlanSign.Voice v ∷ ss) text (behind, first, more) =
-    (first.stands.known, named-known ids ss behind more)
-named-known ids (PlanSign.UnknownVoice ∷ ss) text (behind, first, more) = absurd first.stands
-named-known ids (sign ∷ ss) text (behind, first, more) = named-known ids ss behind more
+named-known ids (PlanSign.Voice v ∷ ss) text (following, first, more) =
+    (first.stands.known, named-known ids ss following more)
+named-known ids (PlanSign.UnknownVoice ∷ ss) text (following, first, more) = absurd first.stands
+named-known ids (sign ∷ ss) text (following, first, more) = named-known ids ss following more
 
 abbrev IsFull : PlannedStaff → Type 0
 IsFull staff = 1 ≤ length staff.voices

@@ -19,21 +19,22 @@ use Rattle.lay_shared.specs.Reading.{place_of, voice_sign, word_signs, plan_sign
 abbrev IsSignOf : ℕ → Option PlanSign → Type 0
 IsSignOf b o =
     IfSome o
-    (λ sign. (ids : List (List ℕ)) (behind : List ℕ) → (spelled_sign ids sign ≡ b ∷ []) × SpellsSign ids sign behind)
+    (λ sign.
+    (ids : List (List ℕ)) (following : List ℕ) → (spelled_sign ids sign ≡ b ∷ []) × SpellsSign ids sign following)
 
 sign_if : (b : ℕ) (o p q r s t : Bool)
     → (b == 40) ≡ o → (b == 41) ≡ p → (b == 91) ≡ q → (b == 93) ≡ r → (b == 123) ≡ s → (b == 125) ≡ t
     → IsSignOf b (plan_sign_at b)
-sign_if b true p q r s t e f g h i j = rw e (λ ids behind. (ap (λ x. x ∷ []) (sym (eqb-true b 40 e)), tt))
-sign_if b false true q r s t e f g h i j = rw (e, f) (λ ids behind. (ap (λ x. x ∷ []) (sym (eqb-true b 41 f)), tt))
+sign_if b true p q r s t e f g h i j = rw e (λ ids following. (ap (λ x. x ∷ []) (sym (eqb-true b 40 e)), tt))
+sign_if b false true q r s t e f g h i j = rw (e, f) (λ ids following. (ap (λ x. x ∷ []) (sym (eqb-true b 41 f)), tt))
 sign_if b false false true r s t e f g h i j =
-    rw (e, f, g) (λ ids behind. (ap (λ x. x ∷ []) (sym (eqb-true b 91 g)), tt))
+    rw (e, f, g) (λ ids following. (ap (λ x. x ∷ []) (sym (eqb-true b 91 g)), tt))
 sign_if b false false false true s t e f g h i j =
-    rw (e, f, g, h) (λ ids behind. (ap (λ x. x ∷ []) (sym (eqb-true b 93 h)), tt))
+    rw (e, f, g, h) (λ ids following. (ap (λ x. x ∷ []) (sym (eqb-true b 93 h)), tt))
 sign_if b false false false false true t e f g h i j =
-    rw (e, f, g, h, i) (λ ids behind. (ap (λ x. x ∷ []) (sym (eqb-true b 123 i)), tt))
+    rw (e, f, g, h, i) (λ ids following. (ap (λ x. x ∷ []) (sym (eqb-true b 123 i)), tt))
 sign_if b false false false false false true e f g h i j =
-    rw (e, f, g, h, i, j) (λ ids behind. (ap (λ x. x ∷ []) (sym (eqb-true b 125 j)), tt))
+    rw (e, f, g, h, i, j) (λ ids following. (ap (λ x. x ∷ []) (sym (eqb-true b 125 j)), tt))
 sign_if b false false false false false false e f g h i j = rw (e, f, g, h, i, j) tt
 
 sign-is : (b : ℕ) → IsSignOf b (plan_sign_at b)
@@ -71,8 +72,8 @@ is_known _ = true
 passed-first : (ids : List (List ℕ)) (ss : List PlanSign) (b : ℕ) (text : List ℕ)
     → is_passed_in_plan b ≡ true → Writes ids ss text → Writes ids ss (b ∷ text)
 passed-first ids [] b text e h = rw (e, h) refl
-passed-first ids (sign ∷ ss) b text e (behind, first, more) = (
-  behind,
+passed-first ids (sign ∷ ss) b text e (following, first, more) = (
+  following,
   record {
     passed = b ∷ first.passed;
     over = rw (e, first.over) refl;
@@ -91,35 +92,35 @@ byte_by ids ss b text (Some sign) e is h more =
     let parts = is ids text in
     (text, record { passed = []; over = refl; cut = ap (λ s. s ++ text) (sym parts.0); stands = parts.1 }, more)
 
-word_by : (ids : List (List ℕ)) (ss : List PlanSign) (b : ℕ) (word behind : List ℕ) (o : Option ℕ)
-    → place_of (b ∷ word) ids ≡ o → list_all is_id (b ∷ word) ≡ true → BeginsNoId behind
-    → list_all is_known (voice_sign o ∷ ss) ≡ true → Writes ids ss behind
-    → Writes ids (voice_sign o ∷ ss) ((b ∷ word) ++ behind)
-word_by ids ss b word behind None e all parted known more = let wrong : false ≡ true = known in cc
-word_by ids ss b word behind (Some v) e all parted known more =
+word_by : (ids : List (List ℕ)) (ss : List PlanSign) (b : ℕ) (word following : List ℕ) (o : Option ℕ)
+    → place_of (b ∷ word) ids ≡ o → list_all is_id (b ∷ word) ≡ true → BeginsNoId following
+    → list_all is_known (voice_sign o ∷ ss) ≡ true → Writes ids ss following
+    → Writes ids (voice_sign o ∷ ss) ((b ∷ word) ++ following)
+word_by ids ss b word following None e all parted known more = let wrong : false ≡ true = known in cc
+word_by ids ss b word following (Some v) e all parted known more =
     let at = position-Some (λ id. bytes_eq id (b ∷ word)) ids v [] e in
     let same : id_at ids v ≡ b ∷ word = (bytes_eq-Decides (id_at ids v) (b ∷ word)).0 at.1 in (
-      behind,
+      following,
       record {
         passed = [];
         over = refl;
-        cut = ap (λ s. s ++ behind) (sym same);
+        cut = ap (λ s. s ++ following) (sym same);
         stands = record { known = at.0; some = rw same (omega arith); whole = rw same all; parted = parted };
       },
       more,
     )
 
-word-written : (ids : List (List ℕ)) (ss : List PlanSign) (word behind : List ℕ)
-    → list_all is_id word ≡ true → BeginsNoId behind
-    → list_all is_known (word_signs ids word ++ ss) ≡ true → Writes ids ss behind
-    → Writes ids (word_signs ids word ++ ss) (word ++ behind)
-word-written ids ss [] behind all parted known more = more
-word-written ids ss (b ∷ word) behind all parted known more =
-    word_by ids ss b word behind (place_of (b ∷ word) ids) refl all parted known more
+word-written : (ids : List (List ℕ)) (ss : List PlanSign) (word following : List ℕ)
+    → list_all is_id word ≡ true → BeginsNoId following
+    → list_all is_known (word_signs ids word ++ ss) ≡ true → Writes ids ss following
+    → Writes ids (word_signs ids word ++ ss) (word ++ following)
+word-written ids ss [] following all parted known more = more
+word-written ids ss (b ∷ word) following all parted known more =
+    word_by ids ss b word following (place_of (b ∷ word) ids) refl all parted known more
 
-known_behind : (rs ss : List PlanSign) → list_all is_known (rs ++ ss) ≡ true → list_all is_known ss ≡ true
-known_behind [] ss h = h
-known_behind (r ∷ rs) ss h = known_behind rs ss (and_parts _ _ h).1
+known_after : (rs ss : List PlanSign) → list_all is_known (rs ++ ss) ≡ true → list_all is_known ss ≡ true
+known_after [] ss h = h
+known_after (r ∷ rs) ss h = known_after rs ss (and_parts _ _ h).1
 
 id_more : (word : List ℕ) (b : ℕ) → list_all is_id word ≡ true → is_id b ≡ true → list_all is_id (word ++ b ∷ []) ≡ true
 id_more [] b all e = rw e refl
@@ -140,9 +141,9 @@ written_if ids word b text true e all known more =
 written_if ids word b text false e all known more =
     let split : list_all is_known
     (word_signs ids word ++ (option_to_list (plan_sign_at b) ++ plan_signs_from ids [] text)) ≡ true = rw e at known in
-    let behind =
-    known_behind (word_signs ids word) (option_to_list (plan_sign_at b) ++ plan_signs_from ids [] text) split in
-    let there = more [] refl (known_behind (option_to_list (plan_sign_at b)) (plan_signs_from ids [] text) behind) in
+    let following =
+    known_after (word_signs ids word) (option_to_list (plan_sign_at b) ++ plan_signs_from ids [] text) split in
+    let there = more [] refl (known_after (option_to_list (plan_sign_at b)) (plan_signs_from ids [] text) following) in
     let byte = byte_by ids (plan_signs_from ids [] text) b text (plan_sign_at b) refl (sign-is b) e there in
     rw e (word-written ids (option_to_list (plan_sign_at b) ++ plan_signs_from ids [] text) word (b ∷ text) all e split
     byte)
@@ -208,23 +209,23 @@ voice_read : (ids : List (List ℕ)) (v : ℕ) (word : List ℕ)
 voice_read ids v [] e some = absurd (omega (arith, some))
 voice_read ids v (b ∷ word) e some = ap (λ o. voice_sign o ∷ []) e
 
-sign-read : (ids : List (List ℕ)) (sign : PlanSign) (behind : List ℕ)
-    → AreApart ids → SpellsSign ids sign behind
-    → plan_signs_from ids [] (spelled_sign ids sign ++ behind) ≡ sign ∷ plan_signs_from ids [] behind
-sign-read ids (PlanSign.Voice v) behind apart stands =
-    over-word ids (id_at ids v) [] behind stands.whole ∙ word-ends ids (id_at ids v) behind stands.parted
-    ∙ ap (λ ss. ss ++ plan_signs_from ids [] behind)
+sign-read : (ids : List (List ℕ)) (sign : PlanSign) (following : List ℕ)
+    → AreApart ids → SpellsSign ids sign following
+    → plan_signs_from ids [] (spelled_sign ids sign ++ following) ≡ sign ∷ plan_signs_from ids [] following
+sign-read ids (PlanSign.Voice v) following apart stands =
+    over-word ids (id_at ids v) [] following stands.whole ∙ word-ends ids (id_at ids v) following stands.parted
+    ∙ ap (λ ss. ss ++ plan_signs_from ids [] following)
     (voice_read ids v (id_at ids v) (place-found ids v apart stands.known) stands.some)
-sign-read ids PlanSign.UnknownVoice behind apart stands = absurd stands
-sign-read ids (PlanSign.Opens Bracket.Square) behind apart stands = refl
-sign-read ids (PlanSign.Ends Bracket.Square) behind apart stands = refl
-sign-read ids sign behind apart stands = refl
+sign-read ids PlanSign.UnknownVoice following apart stands = absurd stands
+sign-read ids (PlanSign.Opens Bracket.Square) following apart stands = refl
+sign-read ids (PlanSign.Ends Bracket.Square) following apart stands = refl
+sign-read ids sign following apart stands = refl
 
 pub text-read : (ids : List (List ℕ)) (ss : List PlanSign) (text : List ℕ)
     → AreApart ids → Writes ids ss text → plan_signs_from ids [] text ≡ ss
 text-read ids [] text apart h = ap (plan_signs_from ids []) (sym (append-nil text)) ∙ over-passed ids text [] h
-text-read ids (sign ∷ ss) text apart (behind, first, more) =
+text-read ids (sign ∷ ss) text apart (following, first, more) =
     ap (plan_signs_from ids []) first.cut
-    ∙ over-passed ids first.passed (spelled_sign ids sign ++ behind) first.over
-    ∙ sign-read ids sign behind apart first.stands
-    ∙ ap (λ rest. sign ∷ rest) (text-read ids ss behind apart more)
+    ∙ over-passed ids first.passed (spelled_sign ids sign ++ following) first.over
+    ∙ sign-read ids sign following apart first.stands
+    ∙ ap (λ rest. sign ∷ rest) (text-read ids ss following apart more)

@@ -51,25 +51,25 @@ BeginsNoId [] = ⊤
 BeginsNoId (b ∷ s) = is_id b ≡ false
 
 -- a voice is written there by its whole id
-pub record IsVoice (ids : List (List ℕ)) (v : ℕ) (behind : List ℕ) : Type 0 where
+pub record IsVoice (ids : List (List ℕ)) (v : ℕ) (following : List ℕ) : Type 0 where
   pub known : v < length ids
   pub some : 1 ≤ length (id_at ids v)
   pub whole : list_all is_id (id_at ids v) ≡ true
-  pub parted : BeginsNoId behind
+  pub parted : BeginsNoId following
 
 abbrev pub SpellsSign : List (List ℕ) → PlanSign → List ℕ → Type 0
-SpellsSign ids (PlanSign.Voice v) behind = IsVoice ids v behind
-SpellsSign ids PlanSign.UnknownVoice behind = ⊥
-SpellsSign ids _ behind = ⊤
+SpellsSign ids (PlanSign.Voice v) following = IsVoice ids v following
+SpellsSign ids PlanSign.UnknownVoice following = ⊥
+SpellsSign ids _ following = ⊤
 
 -- the sign is the first of the text, followed by the rest
-pub record IsFirstSign (ids : List (List ℕ)) (sign : PlanSign) (text behind : List ℕ) : Type 0 where
+pub record IsFirstSign (ids : List (List ℕ)) (sign : PlanSign) (text following : List ℕ) : Type 0 where
   pub passed : List ℕ
   pub over : list_all is_passed_in_plan passed ≡ true
-  pub cut : text ≡ passed ++ (spelled_sign ids sign ++ behind)
-  pub stands : SpellsSign ids sign behind
+  pub cut : text ≡ passed ++ (spelled_sign ids sign ++ following)
+  pub stands : SpellsSign ids sign following
 
 -- these are the signs of the text
 abbrev pub Writes : List (List ℕ) → List PlanSign → List ℕ → Type 0
 Writes ids [] text = list_all is_passed_in_plan text ≡ true
-Writes ids (sign ∷ more) text = (behind : List ℕ) × IsFirstSign ids sign text behind × Writes ids more behind
+Writes ids (sign ∷ more) text = (following : List ℕ) × IsFirstSign ids sign text following × Writes ids more following

@@ -12,16 +12,16 @@ pub data Trees : Type 0 where
 
 -- The signs of trees, followed by the rest.
 abbrev pub voice_signs : List ℕ → List PlanSign → List PlanSign
-voice_signs [] behind = behind
-voice_signs (v ∷ vs) behind = PlanSign.Voice v ∷ voice_signs vs behind
+voice_signs [] following = following
+voice_signs (v ∷ vs) following = PlanSign.Voice v ∷ voice_signs vs following
 
 abbrev pub tree_signs : Trees → List PlanSign → List PlanSign
-tree_signs no_tree behind = behind
-tree_signs (voice_tree v more) behind = PlanSign.Voice v ∷ tree_signs more behind
-tree_signs (staff_tree v vs more) behind =
-    PlanSign.StaffOpens ∷ PlanSign.Voice v ∷ voice_signs vs (PlanSign.StaffEnds ∷ tree_signs more behind)
-tree_signs (group_tree b inner more) behind =
-    PlanSign.Opens b ∷ tree_signs inner (PlanSign.Ends b ∷ tree_signs more behind)
+tree_signs no_tree following = following
+tree_signs (voice_tree v more) following = PlanSign.Voice v ∷ tree_signs more following
+tree_signs (staff_tree v vs more) following =
+    PlanSign.StaffOpens ∷ PlanSign.Voice v ∷ voice_signs vs (PlanSign.StaffEnds ∷ tree_signs more following)
+tree_signs (group_tree b inner more) following =
+    PlanSign.Opens b ∷ tree_signs inner (PlanSign.Ends b ∷ tree_signs more following)
 
 -- the voices of each staff, in the order of the text
 abbrev pub shares_of : Trees → List (List ℕ)

@@ -113,13 +113,13 @@ stops_at reach len gaps width starts others forced a m row h inside l e each nev
 }
 
 -- or after a forced bar
-pub stops_behind : {C : Type 0} (reach : C → ℕ → Option Reach) (len : C → ℕ → ℕ) (gaps : List ℕ) (width : ℕ)
+pub stops_after : {C : Type 0} (reach : C → ℕ → Option Reach) (len : C → ℕ → ℕ) (gaps : List ℕ) (width : ℕ)
     (starts others : List (List C)) (forced : ℕ → Bool)
     (a m : ℕ) (row : List ℕ) → m < length starts → a + length row ≡ m + 1 → a ≤ m
     → ((k : ℕ) → k < length row → IsCost reach len gaps width starts others forced a (a + 1 + k) (slice_index row k))
     → forced (m + 1) ≡ true
     → IsRowFrom reach len gaps width starts others forced a row
-stops_behind reach len gaps width starts others forced a m row l e k each is =
+stops_after reach len gaps width starts others forced a m row l e k each is =
     record { within = omega arith; each = each; stops = λ b past within. inl (m + 1, omega arith, omega arith, is) }
 
 -- the rows as a list of spans

@@ -14,9 +14,9 @@ use Rattle.lay_spans.specs.Rows.{row_spans, rows_spans}
 pub listed_here : (a b : ℕ) (s : Span) (ss : List Span) → s.a ≡ a → s.b ≡ b → listed (s ∷ ss) a b ≡ Some s.badness
 listed_here a b s ss e f = rw (has_these a b s e f) refl
 
-pub listed_behind : (a b : ℕ) (s : Span) (ss : List Span)
+pub listed_after : (a b : ℕ) (s : Span) (ss : List Span)
     → (s.a ≡ a → s.b ≡ b → ⊥) → listed (s ∷ ss) a b ≡ listed ss a b
-listed_behind a b s ss h = let t : has_ends a b s ≡ false = grind (arith, nat_tests) in rw t refl
+listed_after a b s ss h = let t : has_ends a b s ≡ false = grind (arith, nat_tests) in rw t refl
 
 -- the spans of a row
 pub in_row : (a b : ℕ) (row : List ℕ) (rest : List Span) (c : ℕ)
@@ -28,7 +28,7 @@ in_row a b (v ∷ vs) rest c l m = elim (cases_eq b c) [
       rw z (listed_here a c (record { a = a; b = b; badness = v }) (row_spans a (b + 1) vs ++ rest) refl e)
   | inr d ↦
       let lt : b + 1 ≤ c = grind arith in let s : c - b ≡ suc (c - (b + 1)) = omega arith in
-      rw s (listed_behind a c (record { a = a; b = b; badness = v }) (row_spans a (b + 1) vs ++ rest) (λ e f. d f)
+      rw s (listed_after a c (record { a = a; b = b; badness = v }) (row_spans a (b + 1) vs ++ rest) (λ e f. d f)
       ∙ in_row a (b + 1) vs rest c lt (omega arith))
 ]
 
@@ -36,14 +36,14 @@ pub past_row : (a b : ℕ) (row : List ℕ) (rest : List Span) (c : ℕ)
     → b + length row ≤ c → listed (row_spans a b row ++ rest) a c ≡ listed rest a c
 past_row a b [] rest c l = refl
 past_row a b (v ∷ vs) rest c l =
-    listed_behind a c (record { a = a; b = b; badness = v }) (row_spans a (b + 1) vs ++ rest) (λ e f. omega arith)
+    listed_after a c (record { a = a; b = b; badness = v }) (row_spans a (b + 1) vs ++ rest) (λ e f. omega arith)
     ∙ past_row a (b + 1) vs rest c (omega arith)
 
 pub other_row : (m b : ℕ) (row : List ℕ) (rest : List Span) (a c : ℕ)
     → (m ≡ a → ⊥) → listed (row_spans m b row ++ rest) a c ≡ listed rest a c
 other_row m b [] rest a c d = refl
 other_row m b (v ∷ vs) rest a c d =
-    listed_behind a c (record { a = m; b = b; badness = v }) (row_spans m (b + 1) vs ++ rest) (λ e f. d e)
+    listed_after a c (record { a = m; b = b; badness = v }) (row_spans m (b + 1) vs ++ rest) (λ e f. d e)
     ∙ other_row m (b + 1) vs rest a c d
 
 -- the spans of the rows from m on
@@ -133,7 +133,7 @@ pub none_falls : (n : ℕ) (last : Option Span) (ss : List Span)
     → SpansFrom n last ss → (a b : ℕ) → b ≤ a → listed ss a b ≡ None
 none_falls n last [] h a b l = refl
 none_falls n last (s ∷ ss) h a b l =
-    let r = h.0.rises in listed_behind a b s ss (λ e g. omega arith) ∙ none_falls n (Some s) ss h.1 a b l
+    let r = h.0.rises in listed_after a b s ss (λ e g. omega arith) ∙ none_falls n (Some s) ss h.1 a b l
 
 in_row_or_past : (rows : List (List ℕ)) (a b : ℕ)
     → a < b → slice_get (slice_index_or rows a []) (b - a - 1) ≡ listed (rows_spans 0 rows) a b

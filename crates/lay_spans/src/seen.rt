@@ -10,7 +10,7 @@ pub struct BorrowedColumn<'a, C: Spaced + Spring> {
     pub column: &'a C,
     stands: ReachView<'a>,
     natural: u32,
-    pub ghost told: { TellsReach stands (C.reach_of column.now) } by { Prim.hlevel props },
+    pub ghost known: { TellsReach stands (C.reach_of column.now) } by { Prim.hlevel props },
     pub ghost sprung: { natural ≡ C.length_of column.now 256 },
 }
 

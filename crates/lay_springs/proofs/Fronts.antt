@@ -130,18 +130,18 @@ module _ (reach : ℕ → ℕ → Option Reach) (lanes j : ℕ) (v : ℤ) where
             elim h.2 [ inl q ↦ old lane lt q some | inr q ↦ (j, r, omega arith, e, rw here q) ]
 
 -- a column past the frontiers is clear of the columns before it
-pub each_behind : (reach : ℕ → Option Reach) (gaps : List ℕ) (lanes : ℕ) (front : List ℤ) (v : ℤ)
+pub each_after : (reach : ℕ → Option Reach) (gaps : List ℕ) (lanes : ℕ) (front : List ℤ) (v : ℤ)
     → pos 0 ≤ℤ v → IsPast reach gaps lanes front v
     → (lane : ℕ) → lane < lanes → IfSome (reach lane) (λ r. at front lane ≤ℤ v)
-each_behind reach gaps lanes front v begins past lane l = one (reach lane) refl
+each_after reach gaps lanes front v begins past lane l = one (reach lane) refl
   where
-    behind : (end : ℤ) (room : ℕ) → (pos 0 ≤ℤ end → (end +ℤ pos room) ≤ℤ v) → end ≤ℤ v
-    behind (pos k) room past = let p = past (omega (arith, ints)) in omega (arith, ints)
-    behind (negsuc k) room past = omega (arith, ints)
+    following : (end : ℤ) (room : ℕ) → (pos 0 ≤ℤ end → (end +ℤ pos room) ≤ℤ v) → end ≤ℤ v
+    following (pos k) room past = let p = past (omega (arith, ints)) in omega (arith, ints)
+    following (negsuc k) room past = omega (arith, ints)
 
     one : (o : Option Reach) → reach lane ≡ o → IfSome o (λ r. at front lane ≤ℤ v)
     one None e = tt
-    one (Some r) e = behind (at front lane) (slice_index gaps lane + r.left) (past lane r l e)
+    one (Some r) e = following (at front lane) (slice_index gaps lane + r.left) (past lane r l e)
 
 -- a column is in no lane past its row
 pub none_past : (row : List (Option Reach)) (lane : ℕ) → length row ≤ lane → reach_in row lane ≡ None
@@ -158,11 +158,11 @@ front_start reach lanes x front h = record {
 }
 
 -- a view of one lane says that the column is in that lane alone
-pub lone_told : (stand : LaneReach) (reach : ℕ → Option Reach)
+pub lone_known : (stand : LaneReach) (reach : ℕ → Option Reach)
     → TellsReach (ReachView.OneLane stand) reach → stand.lane < 4294967296 → IsLone reach stand
-lone_told stand reach told few = record {
-  here = let same = eq-eqb stand.lane stand.lane refl in sym (told stand.lane few) ∙ rw same refl;
-  alone = λ lane l other. let apart = ne_eqb lane stand.lane other in sym (told lane (omega arith)) ∙ rw apart refl;
+lone_known stand reach known few = record {
+  here = let same = eq-eqb stand.lane stand.lane refl in sym (known stand.lane few) ∙ rw same refl;
+  alone = λ lane l other. let apart = ne_eqb lane stand.lane other in sym (known lane (omega arith)) ∙ rw apart refl;
 }
 
 -- a column that is in one lane alone is past all frontiers if it is past the frontier of that lane
@@ -183,7 +183,7 @@ pub lone_noted : (reach : ℕ → Option Reach) (stand : LaneReach) (front : Lis
     → IsLone reach stand → length front < 4294967296 → stand.lane < length front
     → at front stand.lane ≤ℤ v → (lane : ℕ) → lane < length front
     → Advances (reach lane) v (at front lane) (at (slice_set front stand.lane (v +ℤ pos stand.reach.right)) lane)
-lone_noted reach stand front v lone few inside behind lane l = elim (cases_eq lane stand.lane) [
+lone_noted reach stand front v lone few inside following lane l = elim (cases_eq lane stand.lane) [
   | inl same ↦ rw (same, lone.here, get_or-set_same front stand.lane (v +ℤ pos stand.reach.right) (pos 0) inside)
       (omega (arith, ints), omega (arith, ints), inr refl)
   | inr other ↦

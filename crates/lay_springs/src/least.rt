@@ -28,7 +28,7 @@ fn past_end(end: i64, room: u32, from: i64) -> i64
     requires nowhere { (pos 0 ≤ℤ end) ⊎ ((end +ℤ pos room) ≤ℤ from) }
     ensures kept { from ≤ℤ result }
     ensures past { pos 0 ≤ℤ end → (end +ℤ pos room) ≤ℤ result }
-    ensures behind { pos 0 ≤ℤ from → end ≤ℤ result }
+    ensures following { pos 0 ≤ℤ from → end ≤ℤ result }
     ensures least { (v : ℤ) → from ≤ℤ v → (pos 0 ≤ℤ end → (end +ℤ pos room) ≤ℤ v) → result ≤ℤ v }
 {
     larger(from, end + i64::from(room))
@@ -63,7 +63,7 @@ fn advance_each(row: &[Option<Reach>], at: i64, front: &mut [i64])
     requires lanes { length front.old < 2 ^ 32 }
     requires begins { pos 0 ≤ℤ at }
     requires small { at ≤ℤ pos (2 ^ 62) }
-    requires behind { (lane : ℕ)
+    requires following { (lane : ℕ)
         → lane < length front.old → IfSome (reach_in row.now lane) (λ r. slice_index_or front.old lane (pos 0) ≤ℤ at) }
     ensures { (lane : ℕ) → lane < length front.old
         → Advances (reach_in row.now lane) at (slice_index_or front.old lane (pos 0))

@@ -90,12 +90,12 @@ other_of s m starts own good some within begun h =
     itself m = grind (arith, nat_tests)
 
 -- a measure after the first of a system has the same columns wherever the system began
-abbrev AreBehind : Score → ℕ → List Column → Type 0
-AreBehind s m columns = AreMeasureColumns ((m - 1) == m) s (timeline_of s) m (verses_of s) columns
+abbrev AreAfter : Score → ℕ → List Column → Type 0
+AreAfter s m columns = AreMeasureColumns ((m - 1) == m) s (timeline_of s) m (verses_of s) columns
 
-behind_any : (s : Score) (a m : ℕ) (columns : List Column)
-    → a < m → AreBehind s m columns → AreMeasureColumns (a == m) s (timeline_of s) m (verses_of s) columns
-behind_any s a m columns h =
+after_any : (s : Score) (a m : ℕ) (columns : List Column)
+    → a < m → AreAfter s m columns → AreMeasureColumns (a == m) s (timeline_of s) m (verses_of s) columns
+after_any s a m columns h =
     subst (λ begins. AreMeasureColumns begins s (timeline_of s) m (verses_of s) columns)
     (apart (m - 1) m (omega (arith, h)) ∙ sym (apart a m h))
   where
@@ -105,15 +105,15 @@ behind_any s a m columns h =
 -- those of the measures from i on, in a system that begins with measure a
 further_ones : (s : Score) (a i : ℕ) (rows : List (List Column))
     → a < i
-    → ((j : ℕ) → j < length rows → AreBehind s (i + j) (get_or rows j []))
+    → ((j : ℕ) → j < length rows → AreAfter s (i + j) (get_or rows j []))
     → AreColumnsFrom s (timeline_of s) a i (verses_of s) rows
 further_ones s a i [] less h = tt
 further_ones s a i (row ∷ rows) less h =
     let here : i + 0 ≡ i = omega arith in (
-      behind_any s a i row less (subst (λ m. AreBehind s m row) here (h 0 (omega arith))),
+      after_any s a i row less (subst (λ m. AreAfter s m row) here (h 0 (omega arith))),
       further_ones s a (i + 1) rows (omega (arith, less)) (λ j l.
           let next : i + suc j ≡ i + 1 + j = omega arith in
-          subst (λ m. AreBehind s m (get_or rows j [])) next (h (suc j) (omega arith))),
+          subst (λ m. AreAfter s m (get_or rows j [])) next (h (suc j) (omega arith))),
     )
 
 -- those of measures i to i + k - 1
@@ -126,7 +126,7 @@ further_part s others h a i k less within =
     let l : length (take k (drop i others)) ≡ k = length-take-le k (drop i others) (omega arith) in
     further_ones s a i (take k (drop i others)) less (λ j below.
     let short : j < k = omega arith in
-    subst (λ row. AreBehind s (i + j) row) (sym (get_or-take k (drop i others) j [] short ∙ get_or-drop i others j []))
+    subst (λ row. AreAfter s (i + j) row) (sym (get_or-take k (drop i others) j [] short ∙ get_or-drop i others j []))
     (h.each (i + j) (omega arith)).called)
 
 pub columns_join : MeasuresJoin → (s : Score) (starts others : List (List Column)) → IsGoodScore s

@@ -63,9 +63,9 @@ twice k l ls e rise = record {
 }
 
 -- the key is put into the list after the first
-put_behind : (k l : ColumnKey) (ls keys : List ColumnKey)
+put_after : (k l : ColumnKey) (ls keys : List ColumnKey)
     → is_below l k ≡ true → BelowAll l ls → AreKeys keys (k ∷ ls) → AreKeys (l ∷ keys) (k ∷ l ∷ ls)
-put_behind k l ls keys h below are = record {
+put_after k l ls keys h below are = record {
   rise = (
     below_each l keys (λ x has. elim (first_or x k ls (are.only x has)) [
       | inl e ↦ subst (λ y. is_below l y ≡ true) e h
@@ -96,7 +96,7 @@ put k (l ∷ ls) rise = at (is_below k l) refl (is_below l k) refl (put k ls ris
     at : (s : Bool) → is_below k l ≡ s → (t : Bool) → is_below l k ≡ t → (keys : List ColumnKey) × AreKeys keys (k ∷ ls)
         → (keys : List ColumnKey) × AreKeys keys (k ∷ l ∷ ls)
     at true e t f more = (k ∷ l ∷ ls, themselves (k ∷ l ∷ ls) ((e, below_further k l ls e rise.0), rise))
-    at false e true f more = (l ∷ more.0, put_behind k l ls more.0 f rise.0 more.1)
+    at false e true f more = (l ∷ more.0, put_after k l ls more.0 f rise.0 more.1)
     at false e false f more = (l ∷ ls, twice k l ls (neither_below k l e f) rise)
 
 one_more : (k : ColumnKey) (called keys more : List ColumnKey)

@@ -3,7 +3,7 @@ use Rattle.std.proofs.Common.{◌≡◌, ◌∙◌, ℕ, suc, ◌≤◌, Bool, t
 use Rattle.std.proofs.Common.{refl, sym, ap, subst, arith}
 use Rattle.std.proofs.lemmas.List.Sums.{count_by-le-length, length-filter, sum_by-append}
 use Rattle.std.specs.List.{AllByRecursion, filter, flat_map, sum_by}
-use Rattle.{mus_score.specs.Seats.{grouped, put_before}, mus_marks.proofs.Groups.{grouped_front, grouped_whole}}
+use Rattle.{mus_score.specs.Seats.{grouped, put_before}, mus_marks.proofs.Groups.{grouped_prefix, grouped_whole}}
 
 module _ {A : Type 0} (joins : A → Bool) where
   -- there is a group for the first element, and one for each other that doesn't join the one before it
@@ -25,7 +25,7 @@ module _ {A : Type 0} (joins : A → Bool) where
       → length (grouped joins (x ∷ xs)) ≡ suc (length (filter (λ y. not (joins y)) xs))
   count_grouped x [] = refl
   count_grouped x (y ∷ ys) =
-      count_before x y (grouped joins (y ∷ ys)) _ _ (grouped_front joins y ys) ∙ by (joins y) (count_grouped y ys)
+      count_before x y (grouped joins (y ∷ ys)) _ _ (grouped_prefix joins y ys) ∙ by (joins y) (count_grouped y ys)
     where
       by : (c : Bool) → length (grouped joins (y ∷ ys)) ≡ suc (length (filter (λ y. not (joins y)) ys))
           → (if c then length (grouped joins (y ∷ ys)) else suc (length (grouped joins (y ∷ ys))))

@@ -78,7 +78,7 @@ fn whole(alloc: Global, out: &mut MemSink) -> Result<(), DocError> {
 }
 
 /// Returns the part of a document after its prolog.
-fn behind_prolog(document: &[u8]) -> &[u8] {
+fn past_prolog(document: &[u8]) -> &[u8] {
     for (place, part) in document.windows(END_OF_PROLOG.len()).enumerate() {
         if part == END_OF_PROLOG {
             let (_, rest) = document.split_at(place);
@@ -104,7 +104,7 @@ pub(crate) fn put_written(out: &mut Report, words: &str, in_one: bool) -> Result
 fn put_taken(out: &mut Report, taken: &[u8]) -> Result<(), Memory> {
     out.tell(taken.len())?;
     out.end_line()?;
-    out.next(behind_prolog(taken))
+    out.next(past_prolog(taken))
 }
 
 /// Adds how much is reported as written.
@@ -158,19 +158,19 @@ fn put_sheet(out: &mut Report, sheet: &Sheet) -> Result<(), Memory> {
 }
 
 /// Returns the document of a text, after a prolog if asked.
-pub(crate) fn document_of(alloc: Global, behind: bool, text: &str) -> Result<Text, Memory> {
+pub(crate) fn document_of(alloc: Global, following: bool, text: &str) -> Result<Text, Memory> {
     let mut document = Text::new(alloc);
-    if behind {
+    if following {
         put_prolog(alloc, &mut document, &paper())?;
     }
     document.append(bytes_of(alloc, text)?.as_slice())?;
     Ok(document)
 }
 
-/// Adds the sheet that a text is read as, or the line at which it isn't a document. If `behind`, the text follows
+/// Adds the sheet that a text is read as, or the line at which it isn't a document. If `following`, the text follows
 /// a prolog.
-pub(crate) fn put_pages(out: &mut Report, behind: bool, text: &str) -> Result<(), Memory> {
-    let document = document_of(out.alloc, behind, text)?;
+pub(crate) fn put_pages(out: &mut Report, following: bool, text: &str) -> Result<(), Memory> {
+    let document = document_of(out.alloc, following, text)?;
     put_pages_of(out, document.as_slice())
 }
 

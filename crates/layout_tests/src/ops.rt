@@ -56,7 +56,7 @@ fn words_of(alloc: Global, words: &str) -> Result<Text, Memory> {
     let mut rest = words;
     for _ in 0..4 {
         rest = match rest.split_once(' ') {
-            Some((_, behind)) => behind,
+            Some((_, following)) => following,
             None => "",
         };
     }

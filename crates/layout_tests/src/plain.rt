@@ -78,16 +78,16 @@ fn put_fit(
 {
     let most = u16::try_from(most).unwrap_or(0).min(2048);
     let mut at = vec![in out.alloc; 0i64; columns.len()]?;
-    let front = &mut [0i64; 2];
+    let prefix = &mut [0i64; 2];
     let mut placed = Progress::none();
-    let found = fit_within(columns, &GAPS, width, most, &mut at, front, &mut placed);
+    let found = fit_within(columns, &GAPS, width, most, &mut at, prefix, &mut placed);
     let Some(last) = last else {
         return put_force(out, found);
     };
     let Some(force) = found else {
         return put_force(out, None);
     };
-    let set = justify(columns, &GAPS, width, force, last, at, front, placed);
+    let set = justify(columns, &GAPS, width, force, last, at, prefix, placed);
     put_placed(out, &set)
 }
 

@@ -19,7 +19,7 @@ use Rattle.mus_arcs.specs.declared.pairing.SlurEnd.{SlurEnd}
 use Rattle.mus_arcs.specs.Arcs.{AreOrdered, ComesBefore, ComesFirst, arcs_of, at_one, slur_copies, earlier, has_pitch}
 use Rattle.mus_arcs.specs.Arcs.{open_ends, slur, slurs, slurs_at, spot, tie, ties_at, ties_from}
 use Rattle.mus_arcs.specs.Events.{at_measure, events_from, events_of_voice}
-use Rattle.mus_arcs.proofs.RuleLaws.{IsSlurFrom, IsTieBehind, IsTieFrom, slurs-are, slurs_at-are, tie-is, ties-are}
+use Rattle.mus_arcs.proofs.RuleLaws.{IsSlurFrom, IsTieAfter, IsTieFrom, slurs-are, slurs_at-are, tie-is, ties-are}
 use Rattle.mus_arcs.proofs.RuleLaws.{ties_at-are}
 
 all_across : (P Q : Arc → Type 0) (R : Arc → Arc → Type 0) (xs ys : List Arc)
@@ -93,11 +93,11 @@ copies-all P (suc n) at p = All-cons P at (slur_copies n at) p (copies-all P n a
 copies-not_falling : (n : ℕ) (at : SlurEnd) (ends : List SlurEnd)
     → All (λ other. at.event ≤ other.event) ends → NotFalling ends → NotFalling (slur_copies n at ++ ends)
 unfolding NotFalling
-copies-not_falling zero at ends behind h = h
-copies-not_falling (suc n) at ends behind h = (
+copies-not_falling zero at ends following h = h
+copies-not_falling (suc n) at ends following h = (
   All-append (λ other. at.event ≤ other.event) (slur_copies n at) ends
-      (copies-all (λ other. at.event ≤ other.event) n at (omega arith)) behind,
-  copies-not_falling n at ends behind h,
+      (copies-all (λ other. at.event ≤ other.event) n at (omega arith)) following,
+  copies-not_falling n at ends following h,
 )
 
 drop-not_falling : (n : ℕ) (ends : List SlurEnd) → NotFalling ends → NotFalling (drop n ends)
@@ -106,22 +106,22 @@ drop-not_falling zero ends h = h
 drop-not_falling (suc n) [] h = tt
 drop-not_falling (suc n) (end ∷ ends) h = drop-not_falling n ends h.1
 
-open_ends-behind : (event : ℕ) (events : List ArcEvent)
+open_ends-following : (event : ℕ) (events : List ArcEvent)
     → All (λ e. event < e.event) events → All (λ end. event < end.event) (open_ends events)
-open_ends-behind event [] h = All-nil (λ end. event < end.event)
-open_ends-behind event (e ∷ events) h =
+open_ends-following event [] h = All-nil (λ end. event < end.event)
+open_ends-following event (e ∷ events) h =
     All-drop (λ end. event < end.event) e.begins (slur_copies e.ends (spot e) ++ open_ends events)
     (All-append (λ end. event < end.event) (slur_copies e.ends (spot e)) (open_ends events)
     (copies-all (λ end. event < end.event) e.ends (spot e) (All-head (λ x. event < x.event) e events h))
-    (open_ends-behind event events (All-tail (λ x. event < x.event) e events h)))
+    (open_ends-following event events (All-tail (λ x. event < x.event) e events h)))
 
 ends-not_falling : (e : ArcEvent) (events : List ArcEvent)
     → All (λ other. e.event < other.event) events → NotFalling (open_ends events)
     → NotFalling (slur_copies e.ends (spot e) ++ open_ends events)
-ends-not_falling e events behind h =
+ends-not_falling e events following h =
     copies-not_falling e.ends (spot e) (open_ends events)
     (All-weaker (λ end. e.event < end.event) (λ end. e.event ≤ end.event) (λ end lt. omega arith) (open_ends events)
-    (open_ends-behind e.event events behind))
+    (open_ends-following e.event events following))
     h
 
 open_ends-not_falling : (events : List ArcEvent) → AreRising events → NotFalling (open_ends events)
@@ -157,12 +157,12 @@ slurs-last k (suc n) at (end ∷ ends) h =
 slur-widens : (start end : SlurEnd) (arcs : List Arc)
     → All (λ a. end.event ≤ a.last) arcs → Widens arcs → Widens (slur start end ++ arcs)
 unfolding Widens
-slur-widens start end arcs behind h =
+slur-widens start end arcs following h =
     let arc : Arc =
     record { tie = false; first = start.event; last = end.event; head = 0; from = start.measure; to = end.measure } in
     elim (start.event == end.event) as (λ b. Widens ((if b then [] else arc ∷ []) ++ arcs)) [
       | true ↦ h
-      | false ↦ (behind, h)
+      | false ↦ (following, h)
     ]
 
 slurs-widen : (n : ℕ) (at : SlurEnd) (ends : List SlurEnd) → NotFalling ends → Widens (slurs (slur_copies n at) ends)
@@ -219,7 +219,7 @@ ties-in_order e place [] next = tt
 ties-in_order e place (head ∷ heads) next =
     in_order-append (tie e place head next) (ties_from e (suc place) heads next) (tie-in_order e place head next)
     (ties-in_order e (suc place) heads next)
-    (all_across (IsTieFrom e.event place) (IsTieBehind e.event (suc place)) ComesBefore (tie e place head next)
+    (all_across (IsTieFrom e.event place) (IsTieAfter e.event (suc place)) ComesBefore (tie e place head next)
     (ties_from e (suc place) heads next)
     (λ a b t u. at_one (t.first ∙ sym u.first) (tie_first a b t.tie u.tie (omega (arith, t.head, u.head))))
     (tie-is e place head next) (ties-are e (suc place) heads next))
@@ -234,18 +234,18 @@ at_event e events =
     All-append (λ a. a.first ≡ e.event) (slurs_at e events) (ties_at e events)
     (All-weaker (IsSlurFrom e.event) (λ a. a.first ≡ e.event) (λ a s. s.first) (slurs_at e events)
     (slurs_at-are e events))
-    (All-weaker (IsTieBehind e.event 0) (λ a. a.first ≡ e.event) (λ a t. t.first) (ties_at e events)
+    (All-weaker (IsTieAfter e.event 0) (λ a. a.first ≡ e.event) (λ a t. t.first) (ties_at e events)
     (ties_at-are e events))
 
-arcs_of-behind : (event : ℕ) (events : List ArcEvent)
+arcs_of-following : (event : ℕ) (events : List ArcEvent)
     → All (λ e. event < e.event) events → All (λ a. event < a.first) (arcs_of events)
-arcs_of-behind event [] h = All-nil (λ a. event < a.first)
-arcs_of-behind event (e ∷ events) h =
+arcs_of-following event [] h = All-nil (λ a. event < a.first)
+arcs_of-following event (e ∷ events) h =
     let lt : event < e.event = All-head (λ x. event < x.event) e events h in
     All-append (λ a. event < a.first) (slurs_at e events ++ ties_at e events) (arcs_of events)
     (All-weaker (λ a. a.first ≡ e.event) (λ a. event < a.first) (λ a is. omega arith)
     (slurs_at e events ++ ties_at e events) (at_event e events))
-    (arcs_of-behind event events (All-tail (λ x. event < x.event) e events h))
+    (arcs_of-following event events (All-tail (λ x. event < x.event) e events h))
 
 arcs_of-in_order : (events : List ArcEvent) → AreRising events → AreOrdered (arcs_of events)
 unfolding AreRising
@@ -254,13 +254,13 @@ arcs_of-in_order (e ∷ events) rising =
     in_order-append (slurs_at e events ++ ties_at e events) (arcs_of events)
     (in_order-append (slurs_at e events) (ties_at e events) (slurs_at-in_order e events rising)
     (ties_at-in_order e events)
-    (all_across (IsSlurFrom e.event) (IsTieBehind e.event 0) ComesBefore (slurs_at e events) (ties_at e events)
+    (all_across (IsSlurFrom e.event) (IsTieAfter e.event 0) ComesBefore (slurs_at e events) (ties_at e events)
     (λ a b s t. at_one (s.first ∙ sym t.first) (tie_second a b s.slur t.tie)) (slurs_at-are e events)
     (ties_at-are e events)))
     (arcs_of-in_order events rising.1)
     (all_across (λ a. a.first ≡ e.event) (λ a. e.event < a.first) ComesBefore (slurs_at e events ++ ties_at e events)
     (arcs_of events)
-    (λ a b is lt. earlier (omega arith)) (at_event e events) (arcs_of-behind e.event events rising.0))
+    (λ a b is lt. earlier (omega arith)) (at_event e events) (arcs_of-following e.event events rising.0))
 
 pub voice-in_order : (v : Voice) → IsGoodVoice v → AreOrdered (arcs_of (events_of_voice v))
 voice-in_order v good =

@@ -5,8 +5,8 @@ use Rattle.mus_arcs.specs.{declared.pairing.Arc.Arc, Pieces.HasPiece, Pieces.Tou
 
 touches : (arc : Arc) (a b : ℕ) → arc.from ≤ arc.to → a < b → HasPiece arc a b → Touches arc a b
 touches arc a b forwards some (begins, reaches) = elim (cases_lt arc.from a) [
-  | inl lt ↦ record { measure = a; begun = omega arith; within = some; behind = omega arith; before = reaches }
-  | inr ge ↦ record { measure = arc.from; begun = ge; within = begins; behind = omega arith; before = forwards }
+  | inl lt ↦ record { measure = a; begun = omega arith; within = some; following = omega arith; before = reaches }
+  | inr ge ↦ record { measure = arc.from; begun = ge; within = begins; following = omega arith; before = forwards }
 ]
 
 touched : (arc : Arc) (a b : ℕ) → Touches arc a b → HasPiece arc a b

@@ -100,7 +100,7 @@ pub record IsTieFrom (event place : ℕ) (a : Arc) : Type 0 where
   pub head : a.head ≡ place
 
 -- a tie from this event, of a head at this place or later
-pub record IsTieBehind (event place : ℕ) (a : Arc) : Type 0 where
+pub record IsTieAfter (event place : ℕ) (a : Arc) : Type 0 where
   pub tie : a.tie ≡ true
   pub first : a.first ≡ event
   pub head : place ≤ a.head
@@ -143,19 +143,19 @@ tie-is e place head next =
     ]
 
 pub ties-are : (e : ArcEvent) (place : ℕ) (heads : List Head) (next : ArcEvent)
-    → All (IsTieBehind e.event place) (ties_from e place heads next)
-ties-are e place [] next = All-nil (IsTieBehind e.event place)
+    → All (IsTieAfter e.event place) (ties_from e place heads next)
+ties-are e place [] next = All-nil (IsTieAfter e.event place)
 ties-are e place (head ∷ heads) next =
-    All-append (IsTieBehind e.event place) (tie e place head next) (ties_from e (suc place) heads next)
-    (All-weaker (IsTieFrom e.event place) (IsTieBehind e.event place)
+    All-append (IsTieAfter e.event place) (tie e place head next) (ties_from e (suc place) heads next)
+    (All-weaker (IsTieFrom e.event place) (IsTieAfter e.event place)
     (λ a t. record { tie = t.tie; first = t.first; head = omega (arith, t.head) }) (tie e place head next)
     (tie-is e place head next))
-    (All-weaker (IsTieBehind e.event (suc place)) (IsTieBehind e.event place)
+    (All-weaker (IsTieAfter e.event (suc place)) (IsTieAfter e.event place)
     (λ a t. record { tie = t.tie; first = t.first; head = omega (arith, t.head) }) (ties_from e (suc place) heads next)
     (ties-are e (suc place) heads next))
 
-pub ties_at-are : (e : ArcEvent) (events : List ArcEvent) → All (IsTieBehind e.event 0) (ties_at e events)
-ties_at-are e [] = All-nil (IsTieBehind e.event 0)
+pub ties_at-are : (e : ArcEvent) (events : List ArcEvent) → All (IsTieAfter e.event 0) (ties_at e events)
+ties_at-are e [] = All-nil (IsTieAfter e.event 0)
 ties_at-are e (next ∷ events) = ties-are e 0 e.heads next
 
 filter-all : (p : Arc → Bool) (arcs : List Arc) → All (λ a. p a ≡ true) arcs → filter p arcs ≡ arcs
@@ -184,7 +184,7 @@ arcs_of-slurs (e ∷ events) =
     (slurs_at-are e events)))
     ∙ ap (λ x. slurs_at e events ++ x)
     (filter-none is_slur (ties_at e events)
-    (All-weaker (IsTieBehind e.event 0) (λ a. is_slur a ≡ false) (λ a t. ap not t.tie) (ties_at e events)
+    (All-weaker (IsTieAfter e.event 0) (λ a. is_slur a ≡ false) (λ a t. ap not t.tie) (ties_at e events)
     (ties_at-are e events)))
     ∙ append-nil (slurs_at e events)) ∙ ap (λ x. slurs_at e events ++ x) (arcs_of-slurs events)
 
@@ -203,7 +203,7 @@ arcs_of-ties (e ∷ events) =
     (All-weaker (IsSlurFrom e.event) (λ a. is_tie a ≡ false) (λ a s. s.slur) (slurs_at e events)
     (slurs_at-are e events)))
     ∙ filter-all is_tie (ties_at e events)
-    (All-weaker (IsTieBehind e.event 0) (λ a. is_tie a ≡ true) (λ a t. t.tie) (ties_at e events)
+    (All-weaker (IsTieAfter e.event 0) (λ a. is_tie a ≡ true) (λ a t. t.tie) (ties_at e events)
     (ties_at-are e events)))
     ∙ ap (λ x. ties_at e events ++ x) (arcs_of-ties events)
 

@@ -11,7 +11,7 @@ pub record Touches (arc : Arc) (a b : ℕ) : Type 0 where
   pub measure : ℕ
   pub begun : a ≤ measure
   pub within : measure < b
-  pub behind : arc.from ≤ measure
+  pub following : arc.from ≤ measure
   pub before : measure ≤ arc.to
 
 -- the piece there, cut at the left if the arc begins before the system, and at the right if it ends after it

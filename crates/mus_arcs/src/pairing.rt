@@ -66,18 +66,18 @@ fn arcs_among(alloc: Global, events: &[ArcEvent]) -> Result<Row<Arc>, Memory>
 /// takes, on return those that are left.
 fn put_arcs(
     event: &ArcEvent,
-    behind: &[ArcEvent],
+    following: &[ArcEvent],
     ends: &mut Vec<SlurEnd>,
     backwards: &mut Vec<Arc>,
 ) -> Result<(), Memory>
     requires heads { length event.now.heads ≤ 50000 }
-    requires ends { reverse ends.old.items ≡ open_ends behind.now }
-    ensures ends { OnOk result (reverse ends.new.items ≡ open_ends (event.now ∷ behind.now)) }
+    requires ends { reverse ends.old.items ≡ open_ends following.now }
+    ensures ends { OnOk result (reverse ends.new.items ≡ open_ends (event.now ∷ following.now)) }
     ensures arcs { OnOk result
         (backwards.new.items
-        ≡ backwards.old.items ++ reverse (slurs_at event.now behind.now ++ ties_at event.now behind.now)) }
+        ≡ backwards.old.items ++ reverse (slurs_at event.now following.now ++ ties_at event.now following.now)) }
 {
-    put_ties(event, behind, backwards)?;
+    put_ties(event, following, backwards)?;
     let at = spot_of(event);
     put_ends(at, event.ends, ends)?;
     put_slurs(at, event.begins, ends, backwards)?;
@@ -141,11 +141,15 @@ fn put_slur(start: SlurEnd, end: SlurEnd, backwards: &mut Vec<Arc>) -> Result<()
 }
 
 /// Adds the ties from an event to the next one, that of the last head first.
-fn put_ties(event: &ArcEvent, behind: &[ArcEvent], backwards: &mut Vec<Arc>) -> Result<(), Memory>
+fn put_ties(
+    event: &ArcEvent,
+    following: &[ArcEvent],
+    backwards: &mut Vec<Arc>,
+) -> Result<(), Memory>
     requires { length event.now.heads ≤ 50000 }
-    ensures { OnOk result (backwards.new.items ≡ backwards.old.items ++ reverse (ties_at event.now behind.now)) }
+    ensures { OnOk result (backwards.new.items ≡ backwards.old.items ++ reverse (ties_at event.now following.now)) }
 {
-    let [next, ..] = behind else {
+    let [next, ..] = following else {
         return Ok(());
     };
     let heads = event.heads.as_slice();

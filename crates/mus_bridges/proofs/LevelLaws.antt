@@ -6,7 +6,7 @@ use Rattle.std.proofs.lemmas.Bool.{true≢false, false≢true, cases_lt, eq-eqb,
 use Rattle.std.proofs.lemmas.Bool.{le-ltb, and_right}
 use Rattle.std.specs.List.{AllByRecursion}
 use Rattle.mus_stems.specs.Runs.{runs, put_before, run_more}
-use Rattle.mus_stems.proofs.RunLaws.{maximal_runs, runs_front}
+use Rattle.mus_stems.proofs.RunLaws.{maximal_runs, runs_prefix}
 use Rattle.mus_ink.proofs.Counting.{one_less}
 use Rattle.mus_bridges.specs.declared.stems.BeamStem.{BeamStem}
 use Rattle.mus_bridges.specs.Beams.{goes_on_at_level, last_at, level_from, levels_from, levels_before, beams_at}
@@ -179,9 +179,9 @@ levels_are k group flags (p ∷ []) =
 levels_are k group flags (p ∷ q ∷ qs) =
     filter_append k here (levels_of p.group p.flags (q ∷ qs))
     ∙ ap (λ t. filter (is_at k) here ++ t)
-    (levels_are k p.group p.flags (q ∷ qs) ∙ ap (λ t. long_runs k (skip (goes_on_from k p.group p.flags q) t)) front)
+    (levels_are k p.group p.flags (q ∷ qs) ∙ ap (λ t. long_runs k (skip (goes_on_from k p.group p.flags q) t)) prefix)
     ∙ by (goes_on_from k group flags p) refl (cases_lt k p.flags)
-    ∙ sym (ap (λ t. long_runs k (skip (goes_on_from k group flags p) (put_before (joins k) p t))) front)
+    ∙ sym (ap (λ t. long_runs k (skip (goes_on_from k group flags p) (put_before (joins k) p t))) prefix)
   where
     here : List Level
     here = levels_at (levels_before p group flags) (p.flags - levels_before p group flags) p (q ∷ qs)
@@ -192,8 +192,8 @@ levels_are k group flags (p ∷ q ∷ qs) =
     rs : List (List BeamStem)
     rs = runs (joins k) (drop (run_more (joins k) q qs) qs)
 
-    front : runs (joins k) (q ∷ qs) ≡ (q ∷ r) ∷ rs
-    front = runs_front (joins k) q qs
+    prefix : runs (joins k) (q ∷ qs) ≡ (q ∷ r) ∷ rs
+    prefix = runs_prefix (joins k) q qs
 
     -- the first run is passed over if p continues into it
     two : (j b : Bool) → (b ≡ true)

@@ -45,11 +45,11 @@ abbrev pub ByFirst : List BeamStem → List Level → Type 0
 ByFirst [] ls = ls ≡ []
 ByFirst (e ∷ es) ls =
     (here : List Level)
-    × (behind : List Level)
-    × (ls ≡ here ++ behind)
+    × (following : List Level)
+    × (ls ≡ here ++ following)
     × AllByRecursion (λ l. l.first ≡ e) here
     × LevelsRise 0 here
-    × ByFirst es behind
+    × ByFirst es following
 
 -- what is drawn of the levels of the events of a measure
 pub record AreLevels (es : List BeamStem) (ls : List Level) : Type 0 where

@@ -50,11 +50,11 @@ fn goes_on_at_level(level: u8, p: BeamStem, q: BeamStem) -> bool
 }
 
 /// Returns the last event of an event's run at a level, looking through the events after it.
-fn last_at(level: u8, measure: u32, p: BeamStem, behind: &[DrawnEvent<'_>]) -> BeamStem
-    ensures { result ≡ last_at level p (map (beam_stem_at measure) behind.now) }
+fn last_at(level: u8, measure: u32, p: BeamStem, following: &[DrawnEvent<'_>]) -> BeamStem
+    ensures { result ≡ last_at level p (map (beam_stem_at measure) following.now) }
 {
     let mut last = p;
-    for e in behind {
+    for e in following {
         let q = beam_stem_at(measure, e);
         if !goes_on_at_level(level, last, q) {
             return last;
@@ -85,13 +85,13 @@ fn put_levels(
     flags: u8,
     measure: u32,
     p: BeamStem,
-    behind: &[DrawnEvent<'_>],
+    following: &[DrawnEvent<'_>],
 ) -> Result<(), Memory>
     ensures { OnOk result
-        (out.new ≡ out.old ++ levels_from level (flags - level) p (map (beam_stem_at measure) behind.now)) }
+        (out.new ≡ out.old ++ levels_from level (flags - level) p (map (beam_stem_at measure) following.now)) }
 {
     for k in level..flags {
-        put_level(out, k, p, last_at(k, measure, p, behind))?;
+        put_level(out, k, p, last_at(k, measure, p, following))?;
     }
     Ok(())
 }
@@ -111,12 +111,12 @@ fn put_beams_at(
     flags: u8,
     measure: u32,
     p: BeamStem,
-    behind: &[DrawnEvent<'_>],
+    following: &[DrawnEvent<'_>],
 ) -> Result<(), Memory>
-    ensures { OnOk result (out.new ≡ out.old ++ beams_at group flags p (map (beam_stem_at measure) behind.now)) }
+    ensures { OnOk result (out.new ≡ out.old ++ beams_at group flags p (map (beam_stem_at measure) following.now)) }
 {
     let level = levels_before(p, group, flags);
-    put_levels(out, level, p.flags, measure, p, behind)
+    put_levels(out, level, p.flags, measure, p, following)
 }
 
 /// Draws the beams of the events of a measure: by the first event that each joins, then by level.
@@ -131,12 +131,12 @@ pub fn put_beams(
     let mut rest = events;
     let mut group = 0;
     let mut flags = 0;
-    while let [e, behind @ ..] = rest {
+    while let [e, following @ ..] = rest {
         let p = beam_stem_at(measure, e);
-        put_beams_at(out, group, flags, measure, p, behind)?;
+        put_beams_at(out, group, flags, measure, p, following)?;
         group = p.group;
         flags = p.flags;
-        rest = behind;
+        rest = following;
     }
     Ok(())
 }

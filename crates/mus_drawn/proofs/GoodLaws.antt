@@ -17,7 +17,7 @@ use Rattle.mus_drawn.specs.declared.drawn.DrawnEvent.{DrawnEvent}
 use Rattle.mus_drawn.specs.declared.drawn.SystemOpening.{SystemOpening}
 use Rattle.mus_drawn.specs.declared.drawn.Style.{Style}
 use Rattle.mus_drawn.specs.declared.standing.StaffState.{StaffState}
-use Rattle.mus_drawn.specs.Drawn.{standing_after, standing_behind, old_signs, opening_of, drawn_events}
+use Rattle.mus_drawn.specs.Drawn.{standing_after, staff_state_after, old_signs, opening_of, drawn_events}
 use Rattle.mus_drawn.specs.Good.{CanDraw, AllCanDraw, CanGrace, AllCanGrace, IsGoodDrawn, AreGoodDrawn, IsGoodMeasure}
 use Rattle.mus_drawn.proofs.Reaches.{near_of}
 
@@ -25,11 +25,11 @@ key_after : (key : Key) (new : Option Key) → IsGoodKey key → IfSome new IsGo
 key_after key None good h = good
 key_after key (Some new) good h = h
 
-pub key_behind : (now : StaffState) (fs : List Flat)
-    → IsGoodKey now.key → AllCanDraw fs → IsGoodKey (standing_behind now fs).key
-key_behind now [] good h = good
-key_behind now (f ∷ fs) good h =
-    key_behind (standing_after now f.event.changes) fs (key_after now.key f.event.changes.key good h.0.key) h.1
+pub key_left_after : (now : StaffState) (fs : List Flat)
+    → IsGoodKey now.key → AllCanDraw fs → IsGoodKey (staff_state_after now fs).key
+key_left_after now [] good h = good
+key_left_after now (f ∷ fs) good h =
+    key_left_after (standing_after now f.event.changes) fs (key_after now.key f.event.changes.key good h.0.key) h.1
 
 opening_good : (now : StaffState) (fs : List Flat)
     → IsGoodKey now.key → AllCanDraw fs → IsGoodKey (opening_of now fs).key

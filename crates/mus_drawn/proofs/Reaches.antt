@@ -11,7 +11,7 @@ use Rattle.mus_score.specs.GoodScore.{AreInReach, IsInReach, clef_at}
 use Rattle.mus_stems.specs.Heads.{AllNear, stand_of}
 use Rattle.mus_stems.specs.Stills.{AllCanStand, CanDrawEvent, clefs_from}
 use Rattle.mus_drawn.specs.declared.standing.StaffState.{StaffState}
-use Rattle.mus_drawn.specs.Drawn.{standing_after, standing_behind}
+use Rattle.mus_drawn.specs.Drawn.{standing_after, staff_state_after}
 
 pub near_of : (clef : Clef) (heads : List Head) → All (IsInReach clef) heads → AllNear (map (stand_of clef) heads)
 unfolding stand_of
@@ -37,6 +37,6 @@ can_stand clef (f ∷ fs) reach good few =
     )
 
 pub reach_cut : (now : StaffState) (fs gs : List Flat)
-    → AreInReach now.clef (fs ++ gs) → AreInReach now.clef fs × AreInReach (standing_behind now fs).clef gs
+    → AreInReach now.clef (fs ++ gs) → AreInReach now.clef fs × AreInReach (staff_state_after now fs).clef gs
 reach_cut now [] gs h = (tt, h)
 reach_cut now (f ∷ fs) gs h = let r = reach_cut (standing_after now f.event.changes) fs gs h.2 in ((h.0, h.1, r.0), r.1)

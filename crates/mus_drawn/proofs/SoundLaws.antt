@@ -14,11 +14,11 @@ use Rattle.mus_score.specs.Times.{flats_of}
 use Rattle.mus_pitch.specs.Alteration.{alteration_of}
 use Rattle.mus_arcs.specs.Arcs.{has_pitch}
 use Rattle.mus_drawn.specs.Hearing.{is_heard_at, is_tied_to, partner_of, heard_alter, heard, heard_from, said_after}
-use Rattle.mus_drawn.specs.Hearing.{heard_at, heard_behind, sounds_from, events_sounds, measures_sounds, voices_sounds}
+use Rattle.mus_drawn.specs.Hearing.{heard_at, heard_after, sounds_from, events_sounds, measures_sounds, voices_sounds}
 use Rattle.mus_drawn.specs.declared.sounds.AlteredHead.{AlteredHead}
 use Rattle.mus_drawn.specs.declared.sounds.Sound.{Sound}
 use Rattle.mus_drawn.specs.declared.standing.StaffState.{StaffState}
-use Rattle.mus_drawn.specs.Drawn.{standing_after, standing_behind, standing_of}
+use Rattle.mus_drawn.specs.Drawn.{standing_after, staff_state_after, standing_of}
 use Rattle.mus_drawn.specs.Sounds.{Seen, Sounding, tied_sound, comes_tied, alter_by, sounds_as, all_heads, seen}
 use Rattle.mus_drawn.specs.Sounds.{seen_from, seen_in, head_sounds, event_sounds, voice_sounds}
 
@@ -126,13 +126,13 @@ heads_are spread before e earlier (h ∷ hs) =
     ∙ ap (λ t. heard_along sound [] t) (append_assoc earlier (h ∷ []) hs)
 
 -- an event after those of its measure
-standing_next : (now : StaffState) (front : List Flat) (f : Flat)
-    → standing_behind now (front ++ f ∷ []) ≡ standing_after (standing_behind now front) f.event.changes
+standing_next : (now : StaffState) (prefix : List Flat) (f : Flat)
+    → staff_state_after now (prefix ++ f ∷ []) ≡ standing_after (staff_state_after now prefix) f.event.changes
 standing_next now [] f = refl
 standing_next now (g ∷ gs) f = standing_next (standing_after now g.event.changes) gs f
 
-said_next : (front : List Flat) (f : Flat)
-    → flat_map all_heads (front ++ f ∷ []) ≡ said_after (flat_map all_heads front) f
+said_next : (prefix : List Flat) (f : Flat)
+    → flat_map all_heads (prefix ++ f ∷ []) ≡ said_after (flat_map all_heads prefix) f
 said_next [] f = append-nil (all_heads f)
 said_next (g ∷ gs) f =
     let graces = flat_map (λ x. x.heads) f.graces in
@@ -140,13 +140,13 @@ said_next (g ∷ gs) f =
     ∙ sym (append_assoc (all_heads g) (flat_map all_heads gs ++ graces) f.event.heads)
     ∙ ap (λ t. t ++ f.event.heads) (sym (append_assoc (all_heads g) (flat_map all_heads gs) graces))
 
-event_is : (spread : Spread) (now : StaffState) (front : List Flat) (before : List Seen) (f : Flat) →
-    heard_at spread (standing_behind now front) (flat_map all_heads front) (heard_before spread before) f
-    ≡ heard_before spread (seen now front f ∷ before)
-event_is spread now front before f =
-    let e = seen now front f in
+event_is : (spread : Spread) (now : StaffState) (prefix : List Flat) (before : List Seen) (f : Flat) →
+    heard_at spread (staff_state_after now prefix) (flat_map all_heads prefix) (heard_before spread before) f
+    ≡ heard_before spread (seen now prefix f ∷ before)
+event_is spread now prefix before f =
+    let e = seen now prefix f in
     (λ i.
-    heard_from spread (sym (standing_next now front f) i).key.signs (heard_before spread before)
+    heard_from spread (sym (standing_next now prefix f) i).key.signs (heard_before spread before)
     (sym (append-nil e.said) i) [] f.event.heads)
     ∙ heads_are spread before e [] f.event.heads
 
@@ -157,55 +157,56 @@ sounds_are sound voice event k earlier (h ∷ hs) =
     ap (λ t. record { voice = voice; event = event; head = k; pitch = h.pitch; alter = sound earlier h } ∷ t)
     (sounds_are sound voice event (k + 1) (earlier ++ h ∷ []) hs)
 
-events_are : (voice : ℕ) (spread : Spread) (now : StaffState) (front : List Flat) (before : List Seen) (fs : List Flat)
-    → events_sounds voice spread (standing_behind now front) (flat_map all_heads front) (heard_before spread before) fs
-    ≡ event_sounds voice spread before (seen_from now front fs)
-events_are voice spread now front before [] = refl
-events_are voice spread now front before (f ∷ fs) =
-    let e = seen now front f in let h = event_is spread now front before f in
+events_are : (voice : ℕ) (spread : Spread) (now : StaffState) (prefix : List Flat) (before : List Seen) (fs : List Flat)
+    → events_sounds voice spread (staff_state_after now prefix) (flat_map all_heads prefix) (heard_before spread before)
+    fs
+    ≡ event_sounds voice spread before (seen_from now prefix fs)
+events_are voice spread now prefix before [] = refl
+events_are voice spread now prefix before (f ∷ fs) =
+    let e = seen now prefix f in let h = event_is spread now prefix before f in
     (λ i.
     sounds_from voice f.event.id 0 (h i)
-    ++ events_sounds voice spread (sym (standing_next now front f) i) (sym (said_next front f) i) (h i) fs)
+    ++ events_sounds voice spread (sym (standing_next now prefix f) i) (sym (said_next prefix f) i) (h i) fs)
     ∙ (λ i.
     sounds_are (sounds_as spread before e) voice f.event.id 0 [] f.event.heads i
-    ++ events_are voice spread now (front ++ f ∷ []) (e ∷ before) fs i)
+    ++ events_are voice spread now (prefix ++ f ∷ []) (e ∷ before) fs i)
 
 -- events that were heard, the nearest first
-abbrev behind : List Seen → List Seen → List Seen
-behind before [] = before
-behind before (e ∷ es) = behind (e ∷ before) es
+abbrev following : List Seen → List Seen → List Seen
+following before [] = before
+following before (e ∷ es) = following (e ∷ before) es
 
-behind_are : (spread : Spread) (now : StaffState) (front : List Flat) (before : List Seen) (fs : List Flat) →
-    heard_behind spread (standing_behind now front) (flat_map all_heads front) (heard_before spread before) fs
-    ≡ heard_before spread (behind before (seen_from now front fs))
-behind_are spread now front before [] = refl
-behind_are spread now front before (f ∷ fs) =
-    let h = event_is spread now front before f in
-    (λ i. heard_behind spread (sym (standing_next now front f) i) (sym (said_next front f) i) (h i) fs)
-    ∙ behind_are spread now (front ++ f ∷ []) (seen now front f ∷ before) fs
+after_are : (spread : Spread) (now : StaffState) (prefix : List Flat) (before : List Seen) (fs : List Flat) →
+    heard_after spread (staff_state_after now prefix) (flat_map all_heads prefix) (heard_before spread before) fs
+    ≡ heard_before spread (following before (seen_from now prefix fs))
+after_are spread now prefix before [] = refl
+after_are spread now prefix before (f ∷ fs) =
+    let h = event_is spread now prefix before f in
+    (λ i. heard_after spread (sym (standing_next now prefix f) i) (sym (said_next prefix f) i) (h i) fs)
+    ∙ after_are spread now (prefix ++ f ∷ []) (seen now prefix f ∷ before) fs
 
 sounds_append : (voice : ℕ) (spread : Spread) (before es more : List Seen) →
     event_sounds voice spread before (es ++ more)
-    ≡ event_sounds voice spread before es ++ event_sounds voice spread (behind before es) more
+    ≡ event_sounds voice spread before es ++ event_sounds voice spread (following before es) more
 sounds_append voice spread before [] more = refl
 sounds_append voice spread before (e ∷ es) more =
-    let front = head_sounds (sounds_as spread before e) voice e.id 0 [] e.heads in
-    ap (λ t. front ++ t) (sounds_append voice spread (e ∷ before) es more)
-    ∙ sym (append_assoc front (event_sounds voice spread (e ∷ before) es)
-    (event_sounds voice spread (behind (e ∷ before) es) more))
+    let prefix = head_sounds (sounds_as spread before e) voice e.id 0 [] e.heads in
+    ap (λ t. prefix ++ t) (sounds_append voice spread (e ∷ before) es more)
+    ∙ sym (append_assoc prefix (event_sounds voice spread (e ∷ before) es)
+    (event_sounds voice spread (following (e ∷ before) es) more))
 
 -- a voice, and all of them
 measures_are : (voice : ℕ) (spread : Spread) (now : StaffState) (before : List Seen) (ms : List Measure) →
     measures_sounds voice spread now (heard_before spread before) ms ≡ event_sounds voice spread before (seen_in now ms)
 measures_are voice spread now before [] = refl
 measures_are voice spread now before (m ∷ ms) =
-    let fs = flats_of m.body in let now_behind = standing_behind now fs in
+    let fs = flats_of m.body in let now_after = staff_state_after now fs in
     (λ i.
     events_are voice spread now [] before fs i
-    ++ measures_sounds voice spread now_behind (behind_are spread now [] before fs i) ms)
+    ++ measures_sounds voice spread now_after (after_are spread now [] before fs i) ms)
     ∙ ap (λ t. event_sounds voice spread before (seen_from now [] fs) ++ t)
-    (measures_are voice spread now_behind (behind before (seen_from now [] fs)) ms)
-    ∙ sym (sounds_append voice spread before (seen_from now [] fs) (seen_in now_behind ms))
+    (measures_are voice spread now_after (following before (seen_from now [] fs)) ms)
+    ∙ sym (sounds_append voice spread before (seen_from now [] fs) (seen_in now_after ms))
 
 pub voices_are : (i : ℕ) (spread : Spread) (vs : List Voice) → voices_sounds i spread vs ≡ voice_sounds i spread vs
 voices_are i spread [] = refl

@@ -30,9 +30,9 @@ abbrev pub standing_after : StaffState → Changes → StaffState
 standing_after now ch =
     record { clef = unwrap_or ch.clef now.clef; key = unwrap_or ch.key now.key; meter = unwrap_or ch.meter now.meter }
 
-abbrev pub standing_behind : StaffState → List Flat → StaffState
-standing_behind now [] = now
-standing_behind now (f ∷ fs) = standing_behind (standing_after now f.event.changes) fs
+abbrev pub staff_state_after : StaffState → List Flat → StaffState
+staff_state_after now [] = now
+staff_state_after now (f ∷ fs) = staff_state_after (standing_after now f.event.changes) fs
 
 -- the signs of the key before an event that changes it
 abbrev pub old_signs : Key → Option Key → List Sign
@@ -93,7 +93,7 @@ drawn_measure style now m =
 abbrev pub drawn_measures : Style → StaffState → List Measure → List DrawnMeasure
 drawn_measures style now [] = []
 drawn_measures style now (m ∷ ms) =
-    drawn_measure style now m ∷ drawn_measures style (standing_behind now (flats_of m.body)) ms
+    drawn_measure style now m ∷ drawn_measures style (staff_state_after now (flats_of m.body)) ms
 
 unfoldable pub drawn_voice : Voice → DrawnVoice
 drawn_voice v = record {

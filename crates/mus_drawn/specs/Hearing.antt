@@ -14,7 +14,7 @@ use Rattle.mus_score.specs.Times.{flats_of}
 use Rattle.mus_pitch.specs.Alteration.{alteration_of}
 use Rattle.mus_arcs.specs.Arcs.{has_pitch}
 use Rattle.mus_drawn.specs.declared.standing.StaffState.{StaffState}
-use Rattle.mus_drawn.specs.Drawn.{standing_after, standing_behind, standing_of}
+use Rattle.mus_drawn.specs.Drawn.{standing_after, staff_state_after, standing_of}
 use Rattle.mus_drawn.specs.declared.sounds.AlteredHead.{AlteredHead}
 use Rattle.mus_drawn.specs.declared.sounds.Sound.{Sound}
 
@@ -56,10 +56,10 @@ abbrev pub heard_at : Spread → StaffState → List Head → List AlteredHead �
 heard_at spread now said before f =
     heard_from spread (standing_after now f.event.changes).key.signs before (said_at said f) [] f.event.heads
 
-abbrev pub heard_behind : Spread → StaffState → List Head → List AlteredHead → List Flat → List AlteredHead
-heard_behind spread now said before [] = before
-heard_behind spread now said before (f ∷ fs) =
-    heard_behind spread (standing_after now f.event.changes) (said_after said f) (heard_at spread now said before f) fs
+abbrev pub heard_after : Spread → StaffState → List Head → List AlteredHead → List Flat → List AlteredHead
+heard_after spread now said before [] = before
+heard_after spread now said before (f ∷ fs) =
+    heard_after spread (standing_after now f.event.changes) (said_after said f) (heard_at spread now said before f) fs
 
 -- heads from number k on
 abbrev pub sounds_from : ℕ → ℕ → ℕ → List AlteredHead → List Sound
@@ -80,8 +80,8 @@ abbrev pub measures_sounds : ℕ → Spread → StaffState → List AlteredHead 
 measures_sounds voice spread now before [] = []
 measures_sounds voice spread now before (m ∷ ms) =
     events_sounds voice spread now [] before (flats_of m.body)
-    ++ measures_sounds voice spread (standing_behind now (flats_of m.body))
-    (heard_behind spread now [] before (flats_of m.body)) ms
+    ++ measures_sounds voice spread (staff_state_after now (flats_of m.body))
+    (heard_after spread now [] before (flats_of m.body)) ms
 
 -- voices from number i on
 abbrev pub voices_sounds : ℕ → Spread → List Voice → List Sound

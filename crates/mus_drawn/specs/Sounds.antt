@@ -17,7 +17,7 @@ use Rattle.mus_pitch.specs.Alteration.{alteration_of}
 use Rattle.mus_arcs.specs.Arcs.{has_pitch}
 use Rattle.mus_drawn.specs.declared.sounds.Sound.{Sound}
 use Rattle.mus_drawn.specs.declared.standing.StaffState.{StaffState}
-use Rattle.mus_drawn.specs.Drawn.{standing_behind, standing_of}
+use Rattle.mus_drawn.specs.Drawn.{staff_state_after, standing_of}
 
 -- an event with what it can see: the heads before it in its measure, those of its own graces too, and its key's signs
 pub record Seen : Type 0 where
@@ -62,20 +62,20 @@ all_heads f = grace_heads f ++ f.event.heads
 
 -- an event after those before it in its measure; `now` is in force at the beginning of the measure
 abbrev pub seen : StaffState → List Flat → Flat → Seen
-seen now front f = record {
+seen now prefix f = record {
   id = f.event.id;
   heads = f.event.heads;
-  said = flat_map all_heads front ++ grace_heads f;
-  signs = (standing_behind now (front ++ f ∷ [])).key.signs;
+  said = flat_map all_heads prefix ++ grace_heads f;
+  signs = (staff_state_after now (prefix ++ f ∷ [])).key.signs;
 }
 
 abbrev pub seen_from : StaffState → List Flat → List Flat → List Seen
-seen_from now front [] = []
-seen_from now front (f ∷ fs) = seen now front f ∷ seen_from now (front ++ f ∷ []) fs
+seen_from now prefix [] = []
+seen_from now prefix (f ∷ fs) = seen now prefix f ∷ seen_from now (prefix ++ f ∷ []) fs
 
 abbrev pub seen_in : StaffState → List Measure → List Seen
 seen_in now [] = []
-seen_in now (m ∷ ms) = seen_from now [] (flats_of m.body) ++ seen_in (standing_behind now (flats_of m.body)) ms
+seen_in now (m ∷ ms) = seen_from now [] (flats_of m.body) ++ seen_in (staff_state_after now (flats_of m.body)) ms
 
 -- heads from number k on
 abbrev pub head_sounds : Sounding → ℕ → ℕ → ℕ → List Head → List Head → List Sound

@@ -4,7 +4,7 @@ ghost use Rattle.mus_score.specs.Good.{IsGoodBody, flat_count, IsGoodFlat, flat_
 ghost use Rattle.mus_score.specs.Times.{flats_of};
 ghost use Rattle.mus_score.specs.GoodScore.{AreInReach, IsGoodEvent, IsGoodVoice, events_of};
 ghost use Rattle.mus_stems.specs.Plans.{stems_of, AllEndsNear};
-ghost use Rattle.mus_drawn.specs.Drawn.{standing_after, standing_behind, drawn_event, drawn_events, drawn_measure};
+ghost use Rattle.mus_drawn.specs.Drawn.{standing_after, staff_state_after, drawn_event, drawn_events, drawn_measure};
 ghost use Rattle.mus_drawn.specs.Drawn.{drawn_measures, drawn_voice, raise_of, style_of, wish_in_seat};
 ghost use Rattle.mus_drawn.specs.Good.{AllCanDraw, IsGoodMeasure, AreGoodMeasures};
 
@@ -84,7 +84,7 @@ fn draw_events<'a>(
 ) -> Result<Row<DrawnEvent<'a>>, Memory>
     requires { total_ticks flats ≤ 50000 * longest_ticks }
     ensures events { IfOk result (λ r. r ≡ drawn_events style 0 now.old flats.entry plans) }
-    ensures now { OnOk result (length flats.entry ≤ length plans → now.new ≡ standing_behind now.old flats.entry) }
+    ensures now { OnOk result (length flats.entry ≤ length plans → now.new ≡ staff_state_after now.old flats.entry) }
 {
     let mut out = Row::with_room(alloc, flats.len())?;
     let mut tick: u64 = 0;
@@ -115,7 +115,7 @@ fn draw_measure<'a>(
     ensures good { IfOk result IsGoodMeasure }
     ensures key { OnOk result (IsGoodKey now.new.key) }
     ensures measure { IfOk result (λ r. r ≡ drawn_measure style now.old m.now) }
-    ensures now { OnOk result (now.new ≡ standing_behind now.old (flats_of m.now.body)) }
+    ensures now { OnOk result (now.new ≡ staff_state_after now.old (flats_of m.now.body)) }
 {
     let flats = flatten(alloc, m.body.as_slice())?;
     let opening = opening_of(alloc, now, flats.as_slice())?;

@@ -4,9 +4,9 @@ ghost use Rattle.mus_score.specs.Good.{IsGoodBody};
 ghost use Rattle.mus_score.specs.GoodScore.{IsGoodScore, IsGoodVoice};
 ghost use Rattle.mus_score.specs.Times.{flats_of};
 ghost use Rattle.mus_arcs.specs.Arcs.{has_pitch};
-ghost use Rattle.mus_drawn.specs.Drawn.{standing_after, standing_behind, standing_of};
+ghost use Rattle.mus_drawn.specs.Drawn.{standing_after, staff_state_after, standing_of};
 ghost use Rattle.mus_drawn.specs.Hearing.{is_heard_at, is_tied_to, partner_of, heard_alter, heard, heard_from, said_at};
-ghost use Rattle.mus_drawn.specs.Hearing.{said_after, heard_at, heard_behind, sounds_from, events_sounds};
+ghost use Rattle.mus_drawn.specs.Hearing.{said_after, heard_at, heard_after, sounds_from, events_sounds};
 ghost use Rattle.mus_drawn.specs.Hearing.{measures_sounds, voices_sounds};
 ghost use Rattle.mus_drawn.specs.Sounds.{sounds_of};
 
@@ -211,8 +211,8 @@ fn put_events(
 ) -> Result<(), Memory>
     requires { All (λ f. length f.event.heads ≤ 50000) flats.now }
     ensures sounds { OnOk result (out.new ≡ out.old ++ events_sounds voice spread now.old [] before.old flats.now) }
-    ensures now { OnOk result (now.new ≡ standing_behind now.old flats.now) }
-    ensures before { OnOk result (before.new ≡ heard_behind spread now.old [] before.old flats.now) }
+    ensures now { OnOk result (now.new ≡ staff_state_after now.old flats.now) }
+    ensures before { OnOk result (before.new ≡ heard_after spread now.old [] before.old flats.now) }
 {
     let mut said = Row::new(alloc);
     for flat in flats {
@@ -235,8 +235,8 @@ fn put_body(
     requires { IsGoodBody body.now }
     ensures sounds { OnOk result
         (out.new ≡ out.old ++ events_sounds voice spread now.old [] before.old (flats_of body.now)) }
-    ensures now { OnOk result (now.new ≡ standing_behind now.old (flats_of body.now)) }
-    ensures before { OnOk result (before.new ≡ heard_behind spread now.old [] before.old (flats_of body.now)) }
+    ensures now { OnOk result (now.new ≡ staff_state_after now.old (flats_of body.now)) }
+    ensures before { OnOk result (before.new ≡ heard_after spread now.old [] before.old (flats_of body.now)) }
 {
     let flats = flatten(alloc, body)?;
     put_events(alloc, out, voice, spread, now, before, flats.as_slice())

@@ -23,8 +23,8 @@ use Rattle.mus_stems.specs.declared.dots.Spot.{Spot}
 use Rattle.mus_stems.specs.declared.plans.StemPlan.{StemPlan}
 use Rattle.mus_ink.specs.declared.graces.Group.{Group}
 use Rattle.mus_ink.specs.Bars.{bar_marks, glyph_if}
-use Rattle.mus_ink.specs.Changes.{behind_clef, change_marks, clef_if, head_marks, key_if, new_entries}
-use Rattle.mus_ink.specs.Decos.{behind_deco, body_marks, deco_mark, deco_marks, note_marks}
+use Rattle.mus_ink.specs.Changes.{after_clef, change_marks, clef_if, head_marks, key_if, new_entries}
+use Rattle.mus_ink.specs.Decos.{after_deco, body_marks, deco_mark, deco_marks, note_marks}
 use Rattle.mus_ink.specs.Distances.{entry_gap, signature_side}
 use Rattle.mus_ink.specs.Kinds.{deco_glyph, head_glyph}
 use Rattle.mus_ink.specs.Graces.{at_end, grace_body, grace_head_ink, grace_marks}
@@ -85,8 +85,8 @@ module _ (P : LaneInk → Type 0) (w : OfMarks P) where
       → IfSome ch.meter IsGoodMeter → AllByRecursion P (change_marks c old ch)
   unfolding change_marks
   change c old ch good =
-      two (clef_if ch.clef ++ key_if c (behind_clef ch.clef + entry_gap) old ch.key) _
-      (two (clef_if ch.clef) _ (clef ch.clef) (key c (behind_clef ch.clef + entry_gap) old ch.key))
+      two (clef_if ch.clef ++ key_if c (after_clef ch.clef + entry_gap) old ch.key) _
+      (two (clef_if ch.clef) _ (clef ch.clef) (key c (after_clef ch.clef + entry_gap) old ch.key))
       (meter _ ch.meter good)
 
   -- ---- bars
@@ -188,7 +188,7 @@ module _ (P : LaneInk → Type 0) (w : OfMarks P) where
   all_decos : (dy : ℤ) (ds : List Deco) → AllByRecursion P (deco_marks dy ds)
   all_decos dy [] = tt
   all_decos dy (d ∷ ds) =
-      two (deco_mark dy (deco_glyph d)) _ (deco dy (deco_glyph d)) (all_decos (behind_deco dy (deco_glyph d)) ds)
+      two (deco_mark dy (deco_glyph d)) _ (deco dy (deco_glyph d)) (all_decos (after_deco dy (deco_glyph d)) ds)
 
   body : (c : Clef) (raise : ℤ) (hs : List Head) (e : Event) (p : StemPlan) (before after : ℕ)
       → AllByRecursion P (body_marks c raise hs e p before after)

@@ -20,9 +20,9 @@ clef_if None = []
 clef_if (Some c) = clef_mark 0 c ∷ []
 
 -- how far a change of clef moves what follows it
-abbrev pub behind_clef : Option Clef → ℕ
-behind_clef None = 0
-behind_clef (Some c) = clef_width
+abbrev pub after_clef : Option Clef → ℕ
+after_clef None = 0
+after_clef (Some c) = clef_width
 
 -- the entries of a new key, or a natural for each entry of the old one if the new one has none
 abbrev pub new_entries : Clef → ℕ → List Sign → List Sign → List LaneInk
@@ -45,6 +45,6 @@ count_if old (Some key) = new_count old key.signs
 -- a change: the clef in force there, the old key's entries, and what changes
 unfoldable pub change_marks : Clef → List Sign → Changes → List LaneInk
 change_marks c old changes =
-    let x = behind_clef changes.clef in
+    let x = after_clef changes.clef in
     clef_if changes.clef ++ key_if c (x + entry_gap) old changes.key
     ++ meter_if (x + entry_step * count_if old changes.key) changes.meter

@@ -35,14 +35,14 @@ abbrev pub deco_mark : ℤ → Option Glyph → List LaneInk
 deco_mark dy None = []
 deco_mark dy (Some g) = glyph g (pos 0) dy ∷ []
 
-abbrev pub behind_deco : ℤ → Option Glyph → ℤ
-behind_deco dy None = dy
-behind_deco dy (Some g) = next_deco dy
+abbrev pub after_deco : ℤ → Option Glyph → ℤ
+after_deco dy None = dy
+after_deco dy (Some g) = next_deco dy
 
 -- the decorations that have a glyph
 abbrev pub deco_marks : ℤ → List Deco → List LaneInk
 deco_marks dy [] = []
-deco_marks dy (d ∷ ds) = deco_mark dy (deco_glyph d) ++ deco_marks (behind_deco dy (deco_glyph d)) ds
+deco_marks dy (d ∷ ds) = deco_mark dy (deco_glyph d) ++ deco_marks (after_deco dy (deco_glyph d)) ds
 
 -- a rest, or heads with their stem
 abbrev pub body_marks : Clef → ℤ → List Head → Event → StemPlan → ℕ → ℕ → List LaneInk

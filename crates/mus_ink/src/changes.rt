@@ -1,6 +1,6 @@
 ghost use Rattle.std.specs.Prelude.{◌≡◌, ◌≤◌, length, IfSome, OnOk};
 ghost use Rattle.mus_units.specs.Good.{AreGoodSigns, IsGoodKey};
-ghost use Rattle.mus_ink.specs.Changes.{head_marks, clef_if, behind_clef, new_entries, key_if, new_count, count_if};
+ghost use Rattle.mus_ink.specs.Changes.{head_marks, clef_if, after_clef, new_entries, key_if, new_count, count_if};
 ghost use Rattle.mus_ink.specs.Changes.{change_marks};
 ghost use Rattle.mus_laid.specs.Ranked.{inked};
 
@@ -37,8 +37,8 @@ fn put_clef_if(pen: &mut MarkPen, clef: Option<Clef>) -> Result<(), Memory>
 }
 
 /// Returns how far a change of clef moves what follows it.
-fn behind_clef(clef: Option<Clef>) -> u32
-    ensures value { result ≡ behind_clef clef }
+fn after_clef(clef: Option<Clef>) -> u32
+    ensures value { result ≡ after_clef clef }
     ensures most { result ≤ 1300 }
 {
     match clef {
@@ -123,7 +123,7 @@ pub fn put_change(
     requires key { IfSome changes.now.key IsGoodKey }
     ensures { OnOk result (pen.new ≡ inked pen.old (change_marks clef old.now changes.now)) }
 {
-    let first = behind_clef(changes.clef);
+    let first = after_clef(changes.clef);
     let count = count_if(old, &changes.key) as u32;
     put_clef_if(pen, changes.clef)?;
     put_key_if(pen, clef, first + ENTRY_GAP, old, &changes.key)?;

@@ -1,5 +1,5 @@
 ghost use Rattle.std.specs.Prelude.{◌≡◌, OnOk};
-ghost use Rattle.mus_ink.specs.Decos.{with_stem, top_of, first_deco, next_deco, deco_mark, behind_deco, deco_marks};
+ghost use Rattle.mus_ink.specs.Decos.{with_stem, top_of, first_deco, next_deco, deco_mark, after_deco, deco_marks};
 ghost use Rattle.mus_ink.specs.Decos.{body_marks, note_marks};
 ghost use Rattle.{mus_stems.specs.Slope.{with_end}, mus_laid.specs.Ranked.{inked}};
 
@@ -57,8 +57,8 @@ fn put_deco(pen: &mut MarkPen, dy: i32, glyph: Option<Glyph>) -> Result<(), Memo
     }
 }
 
-fn behind_deco(dy: i32, glyph: Option<Glyph>) -> i32
-    ensures { result ≡ behind_deco dy glyph }
+fn after_deco(dy: i32, glyph: Option<Glyph>) -> i32
+    ensures { result ≡ after_deco dy glyph }
 {
     match glyph {
         None => dy,
@@ -74,7 +74,7 @@ fn put_decos(pen: &mut MarkPen, first: i32, decos: &[Deco]) -> Result<(), Memory
     for deco in decos {
         let glyph = deco_glyph(deco);
         put_deco(pen, dy, glyph)?;
-        dy = behind_deco(dy, glyph);
+        dy = after_deco(dy, glyph);
     }
     Ok(())
 }

@@ -24,9 +24,9 @@ pub fn printed_within(alloc: Global, most: usize, text: &[u8]) -> Result<Text, M
     ensures printable { IfOk result (λ t. list_all is_printable t ≡ true) }
     ensures within { IfOk result (λ t. length t ≤ most) }
 {
-    let (front, _) = text.split_at(min(most, text.len()));
+    let (prefix, _) = text.split_at(min(most, text.len()));
     let mut out = Text::new(alloc);
-    for byte in front {
+    for byte in prefix {
         out.push(printed_byte(*byte))?;
     }
     Ok(out)

@@ -21,7 +21,7 @@ pub(crate) fn found_at(keys: &[ColumnKey], place: usize, key: ColumnKey) -> Opti
 }
 
 /// Returns the rank of a column, which is usually a few places after that of another.
-fn rank_behind(keys: &[ColumnKey], other: u32, key: ColumnKey) -> u32
+fn rank_after(keys: &[ColumnKey], other: u32, key: ColumnKey) -> u32
     requires { AreRanked keys.now }
     ensures { result ≡ key_rank keys.now key }
 {
@@ -67,8 +67,8 @@ pub fn put_bridges(
 {
     let mut first = 0;
     for bridge in bridges {
-        first = rank_behind(keys, first, bridge.first);
-        let last = rank_behind(keys, first, bridge.last);
+        first = rank_after(keys, first, bridge.first);
+        let last = rank_after(keys, first, bridge.last);
         out.push(Laid {
             mark: span_at(first, last, bridge.span),
             lane: Lane::Loose,

@@ -13,10 +13,10 @@ use Rattle.mus_lyric.specs.Singing.{notes_from, on_first, with_sung, sung_from, 
 later : (count more : ℕ) (notes : List NoteAt) → count ≤ more → AreBefore count notes → AreBefore more notes
 later count more notes le h = All-weaker (λ n. n.measure < count) (λ n. n.measure < more) (λ n lt. omega arith) notes h
 
-behind_all : (count : ℕ) (before notes : List NoteAt) → AreBefore count (before ++ notes) → AreBefore count notes
-behind_all count [] notes h = h
-behind_all count (note ∷ before) notes h =
-    behind_all count before notes (All-tail (λ n. n.measure < count) note (before ++ notes) h)
+after_all : (count : ℕ) (before notes : List NoteAt) → AreBefore count (before ++ notes) → AreBefore count notes
+after_all count [] notes h = h
+after_all count (note ∷ before) notes h =
+    after_all count before notes (All-tail (λ n. n.measure < count) note (before ++ notes) h)
 
 notes_from-before : (count : ℕ) (before notes : List NoteAt)
     → AreBefore count before → notes_from count (before ++ notes) ≡ notes_from count notes
@@ -37,21 +37,21 @@ notes_from-none count (note ∷ notes) h =
     rw (lt-ltb note.measure count lt) (notes_from-none count notes (All-tail (λ n. n.measure < count) note notes h))
 
 -- the notes skipped to reach the first note that the count allows
-record Passes (count : ℕ) (notes : List NoteAt) (note : NoteAt) (behind : List NoteAt) : Type 0 where
+record Passes (count : ℕ) (notes : List NoteAt) (note : NoteAt) (following : List NoteAt) : Type 0 where
   before : List NoteAt
-  are : notes ≡ before ++ note ∷ behind
+  are : notes ≡ before ++ note ∷ following
   earlier : AreBefore count before
   reaches : count ≤ note.measure
 
 Found : ℕ → List NoteAt → List NoteAt → Type 0
 Found count notes [] = AreBefore count notes
-Found count notes (note ∷ behind) = Passes count notes note behind
+Found count notes (note ∷ following) = Passes count notes note following
 
 passing : (count : ℕ) (note : NoteAt) (notes found : List NoteAt)
     → note.measure < count → Found count notes found → Found count (note ∷ notes) found
 unfolding Found
 passing count note notes [] lt h = All-cons (λ n. n.measure < count) note notes lt h
-passing count note notes (first ∷ behind) lt h = record {
+passing count note notes (first ∷ following) lt h = record {
   before = note ∷ h.before;
   are = ap (λ x. note ∷ x) h.are;
   earlier = All-cons (λ n. n.measure < count) note h.before lt h.earlier;
@@ -95,16 +95,17 @@ one_way _ _ _ _ (ends count all) passed notes e h = refl
 one_way _ _ _ _ (bar count all syls sung s) passed notes e h =
     one_way (count + 1) all syls sung s passed notes e (later count (count + 1) passed (omega arith) h)
 one_way _ _ _ _ (takes count all syl syls note left sung t k s) passed notes e h =
-    let same : notes_from count notes ≡ note ∷ k.behind =
+    let same : notes_from count notes ≡ note ∷ k.following =
     sym (notes_from-before count passed notes h)
     ∙ ap (notes_from count) (sym e ∙ k.are)
-    ∙ notes_from-before count k.before (note ∷ k.behind) k.earlier
-    ∙ notes_from-reaches count note k.behind k.reaches in
-    let more : sung ≡ sung_from syls note.measure k.behind = one_way note.measure left syls sung s k.before k.behind
+    ∙ notes_from-before count k.before (note ∷ k.following) k.earlier
+    ∙ notes_from-reaches count note k.following k.reaches in
+    let more : sung ≡ sung_from syls note.measure k.following = one_way note.measure left syls sung s k.before
+    k.following
     k.left_are (later count note.measure k.before k.reaches k.earlier) in
     ap (with_sung syl note) more ∙ sym (sung_from-takes syl syls count notes t ∙ ap (on_first (goes_on syl syls)) same)
 one_way _ _ _ _ (dropped count all syl syls sung t none s) passed notes e h =
-    let none_left : AreBefore count notes = behind_all count passed notes (subst (AreBefore count) e none) in
+    let none_left : AreBefore count notes = after_all count passed notes (subst (AreBefore count) e none) in
     one_way count all syls sung s passed notes e h
     ∙ sung_from-none syls count notes none_left
     ∙ sym (sung_from-takes syl syls count notes t
@@ -120,19 +121,19 @@ unfolding Found goes_on
 sings_on syl syls count passed notes [] t h f on =
     dropped count (passed ++ notes) syl syls [] t (All-append (λ n. n.measure < count) passed notes h f)
     (subst (Sings count (passed ++ notes) syls) (sung_from-none syls count notes f) (on count passed notes h))
-sings_on syl syls count passed notes (note ∷ behind) t h f on =
+sings_on syl syls count passed notes (note ∷ following) t h f on =
     let before : List NoteAt = passed ++ f.before in
     let earlier : AreBefore count before = All-append (λ n. n.measure < count) passed f.before h f.earlier in
-    takes count (passed ++ notes) syl syls note (before ++ behind) (sung_from syls note.measure behind) t
+    takes count (passed ++ notes) syl syls note (before ++ following) (sung_from syls note.measure following) t
     (record {
       before = before;
-      behind = behind;
-      are = ap (λ x. passed ++ x) f.are ∙ sym (append_assoc passed f.before (note ∷ behind));
+      following = following;
+      are = ap (λ x. passed ++ x) f.are ∙ sym (append_assoc passed f.before (note ∷ following));
       left_are = refl;
       earlier = earlier;
       reaches = f.reaches;
     })
-    (on note.measure before behind (later count note.measure before f.reaches earlier))
+    (on note.measure before following (later count note.measure before f.reaches earlier))
 
 sings : (syls : List Syl) (count : ℕ) (passed notes : List NoteAt)
     → AreBefore count passed → Sings count (passed ++ notes) syls (sung_from syls count notes)

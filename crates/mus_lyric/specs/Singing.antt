@@ -23,9 +23,9 @@ AreBefore count notes = All (λ n. n.measure < count) notes
 -- a note is the first of those not yet taken whose measure is at least the count, and these other notes are left
 pub record Takes (count : ℕ) (notes : List NoteAt) (note : NoteAt) (left : List NoteAt) : Type 0 where
   pub before : List NoteAt
-  pub behind : List NoteAt
-  pub are : notes ≡ before ++ note ∷ behind
-  pub left_are : left ≡ before ++ behind
+  pub following : List NoteAt
+  pub are : notes ≡ before ++ note ∷ following
+  pub left_are : left ≡ before ++ following
   pub earlier : AreBefore count before
   pub reaches : count ≤ note.measure
 

@@ -52,14 +52,14 @@ run_ended [] syls = syls
 run_ended (first ∷ run) syls = syl.Print (first ∷ run) ∷ syls
 
 -- the syllables of characters after a run
-abbrev pub behind_run : List ℕ → List Character → List Syl
-behind_run run [] = run_ended run []
-behind_run run (Printed byte ∷ more) = behind_run (run ++ byte ∷ []) more
-behind_run run (Blank ∷ more) = run_ended run (behind_run [] more)
-behind_run run (Hyphen ∷ more) = syl.Print (run ++ 45 ∷ []) ∷ behind_run [] more
-behind_run run (Underscore ∷ more) = run_ended run (syl.Print (95 ∷ []) ∷ behind_run [] more)
-behind_run run (Star ∷ more) = run_ended run (syl.Skip ∷ behind_run [] more)
-behind_run run (BarLine ∷ more) = run_ended run (syl.Bar ∷ behind_run [] more)
+abbrev pub after_run : List ℕ → List Character → List Syl
+after_run run [] = run_ended run []
+after_run run (Printed byte ∷ more) = after_run (run ++ byte ∷ []) more
+after_run run (Blank ∷ more) = run_ended run (after_run [] more)
+after_run run (Hyphen ∷ more) = syl.Print (run ++ 45 ∷ []) ∷ after_run [] more
+after_run run (Underscore ∷ more) = run_ended run (syl.Print (95 ∷ []) ∷ after_run [] more)
+after_run run (Star ∷ more) = run_ended run (syl.Skip ∷ after_run [] more)
+after_run run (BarLine ∷ more) = run_ended run (syl.Bar ∷ after_run [] more)
 
 unfoldable pub syllables_of : List ℕ → List Syl
-syllables_of words = behind_run [] (characters words)
+syllables_of words = after_run [] (characters words)

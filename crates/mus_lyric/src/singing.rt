@@ -38,12 +38,12 @@ pub fn align(alloc: Global, syls: &[Syl], notes: &[NoteAt]) -> Result<Row<Sung>,
             count += 1;
             continue;
         }
-        let Some((note, behind)) = next_note(left, count) else {
+        let Some((note, following)) = next_note(left, count) else {
             break;
         };
         put_syllable(alloc, syl, note, &mut sung)?;
         count = u64::from(note.measure);
-        left = behind;
+        left = following;
     }
     Ok(sung)
 }
@@ -64,11 +64,11 @@ fn next_note(notes: &[NoteAt], count: u64) -> Option<(NoteAt, &[NoteAt])>
     ensures { MatchOption result (notes_from count notes.now ≡ []) (λ x. notes_from count notes.now ≡ x.0 ∷ x.1.now) }
 {
     let mut left = notes;
-    'notes: while let [note, behind @ ..] = left {
+    'notes: while let [note, following @ ..] = left {
         if u64::from(note.measure) >= count {
-            return Some((*note, behind));
+            return Some((*note, following));
         }
-        left = behind;
+        left = following;
     }
     None
 }

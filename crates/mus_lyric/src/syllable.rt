@@ -1,7 +1,7 @@
 ghost use Rattle.std.specs.Prelude.{◌≡◌, ◌++◌, ◌∷◌, [], List, IfOk, OnOk};
 ghost use Rattle.mus_lyric.specs.declared.syllable.Syl.{Syl};
 ghost use Rattle.mus_lyric.specs.Characters.{characters};
-ghost use Rattle.mus_lyric.specs.Syllables.{AreSyllablesOf, behind_run, run_ended, syllables_of};
+ghost use Rattle.mus_lyric.specs.Syllables.{AreSyllablesOf, after_run, run_ended, syllables_of};
 ghost use Rattle.mus_lyric.specs.declared.syllable.Syl.TheVariants as syl;
 
 use crate::character::{Character, first_character};
@@ -47,7 +47,7 @@ fn put_character(
 ) -> Result<(), Memory>
     ensures { OnOk result
         ((more : List Character)
-        → syls.new ++ behind_run run.new more ≡ syls.old ++ behind_run run.old (character ∷ more)) }
+        → syls.new ++ after_run run.new more ≡ syls.old ++ after_run run.old (character ∷ more)) }
 {
     match character {
         Character::Printed(byte) => {

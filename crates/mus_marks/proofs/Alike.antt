@@ -36,7 +36,7 @@ use Rattle.mus_laid.specs.Printed.{printed}
 use Rattle.mus_laid.specs.Ranked.{anchor_rank, at_rank, bridge_at, by_columns, drawn_at, is_rank, stands_at_rank}
 use Rattle.mus_laid.specs.Shapes.{HaveSameShapes, laid_shape, mark_shape, marks_shape, staff_shape}
 use Rattle.mus_laid.specs.Boxes.{AreGoodMarks}
-use Rattle.mus_ink.specs.Decos.{behind_deco, body_marks, deco_mark, deco_marks, first_deco, next_deco, note_marks}
+use Rattle.mus_ink.specs.Decos.{after_deco, body_marks, deco_mark, deco_marks, first_deco, next_deco, note_marks}
 use Rattle.mus_ink.specs.Decos.{top_of}
 use Rattle.mus_ink.specs.Distances.{half_character}
 use Rattle.mus_ink.specs.Drawing.{back, beam, glyph, loose_glyph}
@@ -58,12 +58,12 @@ use Rattle.mus_bridges.specs.Beams.{levels_before, levels_from, stem_of, way_of}
 use Rattle.mus_bridges.specs.Arcs.{arc_between, arc_in, arcs_between, event_at, event_in, has_id, left_key}
 use Rattle.mus_bridges.specs.Arcs.{piece_between, right_key, seen_of}
 use Rattle.mus_bridges.specs.Bridges.{beams_between, bridges_of, event_grace_beam, grace_beams_between, beam_stem_at}
-use Rattle.mus_marks.specs.Events.{bar_part, change_part, event_marks, events_marks, graces_part, levels_behind}
+use Rattle.mus_marks.specs.Events.{bar_part, change_part, event_marks, events_marks, graces_part, levels_after}
 use Rattle.mus_marks.specs.Events.{levels_in, measures_marks, no_texts, note_part, note_rank, text_place, words_marks}
 use Rattle.mus_marks.specs.Events.{words_part}
 use Rattle.mus_marks.specs.Staff.{bare_marks, columns_part, first_bar_part, head_part, is_above, is_below_staff}
 use Rattle.mus_marks.specs.Staff.{is_words, own_part, room_over, staff_marks, staff_over, text_above, text_below}
-use Rattle.mus_marks.specs.Staff.{texts_behind, texts_with, verses_on, written_parts}
+use Rattle.mus_marks.specs.Staff.{texts_after, texts_with, verses_on, written_parts}
 use Rattle.mus_marks.specs.declared.events.WordRoom.{WordRoom}
 use Rattle.mus_marks.specs.declared.events.StaffRoom.{StaffRoom}
 use Rattle.mus_marks.specs.declared.events.TextCounts.{TextCounts}
@@ -125,8 +125,8 @@ module _ (r : ℕ) where
   decos y z (d ∷ ds) = by (deco_glyph d) (λ y z. decos y z ds)
     where
       by : (g : Option Glyph) → ((y z : ℤ) → map shape (deco_marks y ds) ≡ map shape (deco_marks z ds))
-          → map shape (deco_mark y g ++ deco_marks (behind_deco y g) ds)
-          ≡ map shape (deco_mark z g ++ deco_marks (behind_deco z g) ds)
+          → map shape (deco_mark y g ++ deco_marks (after_deco y g) ds)
+          ≡ map shape (deco_mark z g ++ deco_marks (after_deco z g) ds)
       by None more = more y z
       by (Some g) more = ap (λ t. shape (glyph g (pos 0) y) ∷ t) (more (next_deco y) (next_deco z))
 
@@ -209,20 +209,20 @@ module _ (keys : List ColumnKey) (place : WordRoom) where
   event m in_head before after e =
       let r = note_rank keys m e in
       let drawn = in_head || is_lower e.seat in
-      let front = change_part keys m drawn (flat_event e) ++ graces_part keys m e in
+      let prefix = change_part keys m drawn (flat_event e) ++ graces_part keys m e in
       joined laid_shape (change_part keys m drawn e ++ graces_part keys m e ++ note_part keys m before after e)
-      (words_part r (Some place) e.flat) (front ++ note_part keys m before after (flat_event e))
+      (words_part r (Some place) e.flat) (prefix ++ note_part keys m before after (flat_event e))
       (words_part r (Some none) e.flat)
-      (joined laid_shape (change_part keys m drawn e ++ graces_part keys m e) (note_part keys m before after e) front
+      (joined laid_shape (change_part keys m drawn e ++ graces_part keys m e) (note_part keys m before after e) prefix
       (note_part keys m before after (flat_event e))
       (ap (λ t. marks_shape (t ++ graces_part keys m e)) (change m drawn e))
       (ranked r _ _ (note r e.clef (raise_of e.seat) e.flat.event e.plan (pos 0) before after)))
       (ranked r _ _ (all_words r place e.flat))
 
-  behind : (p : StemPlan) (es : List DrawnEvent)
-      → levels_behind p es ≡ levels_behind (with_end p (pos 0)) (map flat_event es)
-  behind p [] = refl
-  behind p (e ∷ es) = refl
+  following : (p : StemPlan) (es : List DrawnEvent)
+      → levels_after p es ≡ levels_after (with_end p (pos 0)) (map flat_event es)
+  following p [] = refl
+  following p (e ∷ es) = refl
 
   events : (m : ℕ) (in_head : Bool) (group flags : ℕ) (es : List DrawnEvent)
       → marks_shape (events_marks keys (Some place) m in_head group flags es)
@@ -230,11 +230,11 @@ module _ (keys : List ColumnKey) (place : WordRoom) where
   events m in_head group flags [] = refl
   events m in_head group flags (e ∷ es) =
       joined laid_shape
-      (event_marks keys (Some place) m in_head (levels_in e.plan group flags) (levels_behind e.plan es) e)
+      (event_marks keys (Some place) m in_head (levels_in e.plan group flags) (levels_after e.plan es) e)
       (events_marks keys (Some place) m false e.plan.group e.plan.flags es) _ _
-      (event m in_head (levels_in e.plan group flags) (levels_behind e.plan es) e
+      (event m in_head (levels_in e.plan group flags) (levels_after e.plan es) e
       ∙ ap (λ n. marks_shape (event_marks keys (Some none) m in_head (levels_in e.plan group flags) n (flat_event e)))
-      (behind e.plan es))
+      (following e.plan es))
       (events m false e.plan.group e.plan.flags es)
 
   measures : (lengths : List ℕ) (m : ℕ) (in_head : Bool) (ds : List DrawnMeasure)
@@ -354,10 +354,10 @@ texts_shaped before part (n ∷ ns) =
     ∙ ap (λ t. texts_with (slice_index_or before n no_texts) part n ∷ t) (texts_shaped before part ns)
 
 same_texts : (n : ℕ) (before : List TextCounts) (part other : List Laid)
-    → marks_shape part ≡ marks_shape other → texts_behind n before part ≡ texts_behind n before other
+    → marks_shape part ≡ marks_shape other → texts_after n before part ≡ texts_after n before other
 same_texts n before part other e =
     sym (texts_shaped before part (range_with_len 0 n))
-    ∙ ap (texts_behind n before) e
+    ∙ ap (texts_after n before) e
     ∙ texts_shaped before other (range_with_len 0 n)
 
 -- ---- beams and arcs
@@ -528,9 +528,9 @@ module _ (keys : List ColumnKey) (lengths : List ℕ) (a b : ℕ) where
       ap (λ t.
       t
       ∷ map marks_shape
-      (written_parts keys lengths room a b (first + v.verses) (texts_behind (length keys) before part) vs))
+      (written_parts keys lengths room a b (first + v.verses) (texts_after (length keys) before part) vs))
       (own place v)
-      ∙ ap (λ t. marks_shape other ∷ t) (written room (first + v.verses) (texts_behind (length keys) before part) vs
+      ∙ ap (λ t. marks_shape other ∷ t) (written room (first + v.verses) (texts_after (length keys) before part) vs
       ∙ ap (λ t.
       map marks_shape (written_parts keys lengths (no_room room.verses) a b (first + v.verses) t (map flat_all vs)))
       (same_texts (length keys) before part other (own place v)))

@@ -130,7 +130,8 @@ module _ (r : ℕ) (x : Laid) (stands : stands_at_rank r x ≡ true) where
       by (inl in_it) more =
           Contains-append_left (filter (stands_at_rank r) part) (at_rank parts r) x
           (filter_has (stands_at_rank r) x part stands in_it)
-      by (inr behind) more = Contains-append_right (filter (stands_at_rank r) part) (at_rank parts r) x (more behind)
+      by (inr following) more =
+          Contains-append_right (filter (stands_at_rank r) part) (at_rank parts r) x (more following)
 
   ranks_have : (parts : List (List Laid)) (k i n : ℕ)
       → k + i ≡ r → i < n → Contains (at_rank parts r) x → Contains (flat_map (at_rank parts) (range_with_len k n)) x

@@ -9,7 +9,7 @@ use Rattle.mus_laid.specs.{declared.laid.Laid.Laid, Ranked.anchor_rank, Ranked.i
 use Rattle.mus_marks.specs.declared.events.TextCounts.{TextCounts}
 use Rattle.mus_marks.specs.Events.{no_texts}
 use Rattle.mus_marks.specs.Places.{text_counted, with_text_counted, with_texts_counted}
-use Rattle.mus_marks.specs.Staff.{is_above, is_below_staff, is_words, text_above, text_below, texts_behind, texts_with}
+use Rattle.mus_marks.specs.Staff.{is_above, is_below_staff, is_words, text_above, text_below, texts_after, texts_with}
 
 -- ---- one mark
 stands : (r q : ℕ) (x : Laid) → anchor_rank x.mark ≡ Some q → r ≡ q → stands_at_rank r x ≡ true
@@ -117,7 +117,7 @@ part_counted f (x ∷ xs) n =
 
 pub all_counted : (n : ℕ) (before : List TextCounts) (part : List Laid)
     → with_texts_counted part (map (λ k. slice_index_or before k no_texts) (range_with_len 0 n))
-    ≡ texts_behind n before part
+    ≡ texts_after n before part
 all_counted n before part = part_counted (λ k. slice_index_or before k no_texts) part n
 
 -- ---- columns as they have been counted so far

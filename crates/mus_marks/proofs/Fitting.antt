@@ -14,7 +14,7 @@ use Rattle.mus_stems.specs.declared.plans.StemPlan.{StemPlan}
 use Rattle.mus_drawn.specs.declared.drawn.Style.{Style}
 use Rattle.mus_drawn.specs.declared.standing.StaffState.{StaffState}
 use Rattle.mus_drawn.specs.Drawn.{drawn_events, drawn_measure, drawn_measures, drawn_voice, opening_of, standing_after}
-use Rattle.mus_drawn.specs.Drawn.{standing_behind, standing_of, style_of}
+use Rattle.mus_drawn.specs.Drawn.{staff_state_after, standing_of, style_of}
 use Rattle.mus_marks.specs.Staff.{verses_on}
 use Rattle.mus_marks.specs.System.{drawn_staves, is_drawn_lower}
 use Rattle.mus_marks.proofs.Groups.{grouped_all}
@@ -30,11 +30,12 @@ meter_after None now h good = good
 meter_after (Some m) now h good = h
 
 module _ (verses : ℕ) where
-  meter_behind : (now : StaffState) (fs : List Flat)
-      → IsGoodMeter now.meter → AllByRecursion (IsGoodEvent verses) fs → IsGoodMeter (standing_behind now fs).meter
-  meter_behind now [] good h = good
-  meter_behind now (f ∷ fs) good h =
-      meter_behind (standing_after now f.event.changes) fs (meter_after f.event.changes.meter now.meter h.0.meter good)
+  meter_left_after : (now : StaffState) (fs : List Flat)
+      → IsGoodMeter now.meter → AllByRecursion (IsGoodEvent verses) fs → IsGoodMeter (staff_state_after now fs).meter
+  meter_left_after now [] good h = good
+  meter_left_after now (f ∷ fs) good h =
+      meter_left_after (standing_after now f.event.changes) fs
+      (meter_after f.event.changes.meter now.meter h.0.meter good)
       h.1
 
   events_fit : (style : Style) (tick : ℕ) (now : StaffState) (fs : List Flat) (ps : List StemPlan)
@@ -63,7 +64,7 @@ module _ (verses : ℕ) where
   measures_fit style now (m ∷ ms) good h =
       let fs = flats_of m.body in let here = all_cut (IsGoodEvent verses) fs (events_of ms) h in (
         measure_fits style now m good here.0,
-        measures_fit style (standing_behind now fs) ms (meter_behind now fs good here.0) here.1,
+        measures_fit style (staff_state_after now fs) ms (meter_left_after now fs good here.0) here.1,
       )
 
 pub voice_fits : (v : Voice) → IsGoodVoice v → FitsVoice (drawn_voice v)

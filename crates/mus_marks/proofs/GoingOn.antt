@@ -16,7 +16,7 @@ use Rattle.mus_drawn.specs.declared.drawn.DrawnMeasure.{DrawnMeasure}
 use Rattle.mus_drawn.specs.declared.drawn.Style.{Style}
 use Rattle.mus_drawn.specs.declared.standing.StaffState.{StaffState}
 use Rattle.mus_drawn.specs.Drawn.{drawn_event, drawn_events, drawn_measure, drawn_measures, drawn_voice, standing_after}
-use Rattle.mus_drawn.specs.Drawn.{standing_behind, standing_of, style_of}
+use Rattle.mus_drawn.specs.Drawn.{staff_state_after, standing_of, style_of}
 use Rattle.mus_time.specs.Columns.{note_key}
 
 -- each event is later than those before it, and has a greater id
@@ -30,15 +30,15 @@ GoOn (e ∷ es) = AllByRecursion (IsEarlier e) es × GoOn es
 abbrev pub AllGoOn : List DrawnMeasure → Type 0
 AllGoOn ds = AllByRecursion (λ d. GoOn d.events) ds
 
-events_behind : (style : Style) (e : DrawnEvent) (tick id : ℕ) (now : StaffState) (fs : List Flat) (ps : List StemPlan)
+events_after : (style : Style) (e : DrawnEvent) (tick id : ℕ) (now : StaffState) (fs : List Flat) (ps : List StemPlan)
     → e.tick < tick → e.flat.event.id < id → AreCounted id fs
     → AllByRecursion (IsEarlier e) (drawn_events style tick now fs ps)
-events_behind style e tick id now [] ps later more count = tt
-events_behind style e tick id now (f ∷ fs) [] later more count = tt
-events_behind style e tick id now (f ∷ fs) (p ∷ ps) later more count =
+events_after style e tick id now [] ps later more count = tt
+events_after style e tick id now (f ∷ fs) [] later more count = tt
+events_after style e tick id now (f ∷ fs) (p ∷ ps) later more count =
     let own = count.0 in (
       (later, omega (arith, own, more)),
-      events_behind style e (tick + f.duration) (suc id) (standing_after now f.event.changes) fs ps
+      events_after style e (tick + f.duration) (suc id) (standing_after now f.event.changes) fs ps
           (omega (arith, later)) (omega (arith, more)) count.1,
     )
 
@@ -48,7 +48,7 @@ events_go_on style tick id now [] ps good count = tt
 events_go_on style tick id now (f ∷ fs) [] good count = tt
 events_go_on style tick id now (f ∷ fs) (p ∷ ps) good count =
     let some = good.0.some in let own = count.0 in (
-      events_behind style (drawn_event style tick now f p) (tick + f.duration) (suc id)
+      events_after style (drawn_event style tick now f p) (tick + f.duration) (suc id)
           (standing_after now f.event.changes) fs ps (omega (arith, some)) (omega (arith, own)) count.1,
       events_go_on style (tick + f.duration) (suc id) (standing_after now f.event.changes) fs ps good.1 count.1,
     )
@@ -70,7 +70,7 @@ measures_go_on style now [] n good count = tt
 measures_go_on style now (m ∷ ms) n good count =
     let parts = counted_cut n (flats_of m.body) (events_of ms) count in (
       measure_goes_on style now m n good.0 parts.0,
-      measures_go_on style (standing_behind now (flats_of m.body)) ms parts.1.0 good.1 parts.1.1,
+      measures_go_on style (staff_state_after now (flats_of m.body)) ms parts.1.0 good.1 parts.1.1,
     )
 
 pub voice_goes_on : (v : Voice) → IsGoodVoice v → AllGoOn (drawn_voice v).measures

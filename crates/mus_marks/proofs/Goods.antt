@@ -4,8 +4,8 @@ use Rattle.std.proofs.lemmas.List.Elements.{All-from_recursion, recursion_from_A
 use Rattle.std.specs.List.{All}
 use Rattle.mus_drawn.specs.{declared.drawn.DrawnMeasure.DrawnMeasure, Good.IsGoodMeasure, Good.AreGoodMeasures}
 
-pub all_behind : {A : Type 0} (P : A → Type 0) (x : A) (xs all : List A) → all ≡ x ∷ xs → All P all → All P xs
-all_behind P x xs all is h = All-from_recursion P xs (recursion_from_All P (x ∷ xs) (subst (All P) is h)).1
+pub all_after : {A : Type 0} (P : A → Type 0) (x : A) (xs all : List A) → all ≡ x ∷ xs → All P all → All P xs
+all_after P x xs all is h = All-from_recursion P xs (recursion_from_All P (x ∷ xs) (subst (All P) is h)).1
 
 pub first_good : (ms : List DrawnMeasure) (m : DrawnMeasure)
     → 1 ≤ length ms → m ≡ get_or ms 0 m → AreGoodMeasures ms → IsGoodMeasure m

@@ -15,16 +15,16 @@ one_before n = omega arith
 pub rest_from : {A : Type 0} (n : ℕ) (xs : List A) → take (length xs - n) (drop n xs) ≡ drop n xs
 rest_from n xs = take_all (length xs - n) (drop n xs) (omega (arith, length-drop n xs))
 
-pub front_is : {A : Type 0} (xs : List A) (x : A)
+pub prefix_is : {A : Type 0} (xs : List A) (x : A)
     → 1 ≤ length xs → x ≡ get_or xs 0 x → xs ≡ x ∷ take (length xs - 1) (drop 1 xs)
-front_is xs x some here =
+prefix_is xs x some here =
     drop_more xs 0 x (omega (arith, some)) ∙ ap (λ y. y ∷ drop 1 xs) (sym here) ∙ ap (λ t. x ∷ t) (sym (rest_from 1 xs))
 
 module _ {A : Type 0} (joins : A → Bool) where
-  pub grouped_front : (x : A) (xs : List A)
+  pub grouped_prefix : (x : A) (xs : List A)
       → grouped joins (x ∷ xs) ≡ (x ∷ take (prefix_len joins xs) xs) ∷ grouped joins (drop (prefix_len joins xs) xs)
-  grouped_front x [] = refl
-  grouped_front x (y ∷ ys) = ap (put_before joins x) (grouped_front y ys) ∙ by (joins y) (grouped_front y ys)
+  grouped_prefix x [] = refl
+  grouped_prefix x (y ∷ ys) = ap (put_before joins x) (grouped_prefix y ys) ∙ by (joins y) (grouped_prefix y ys)
     where
       by : (b : Bool)
           → grouped joins (y ∷ ys) ≡ (y ∷ take (prefix_len joins ys) ys) ∷ grouped joins (drop (prefix_len joins ys) ys)
@@ -47,7 +47,7 @@ module _ {A : Type 0} (joins : A → Bool) where
       let a : after ≡ drop k more = e4 ∙ rw (e1, e2, one_past k) refl in
       rw (e5, g, a)
       (append_assoc out (f (x ∷ take k more) ∷ []) (map f (grouped joins (drop k more)))
-      ∙ sym (ap (λ t. out ++ map f t) (ap (grouped joins) e1 ∙ grouped_front x more))
+      ∙ sym (ap (λ t. out ++ map f t) (ap (grouped joins) e1 ∙ grouped_prefix x more))
       ∙ so_far)
 
   pub group_turn : {B : Type 0} (f : List A → B) (rest : List A) (n : ℕ) (out new whole : List B)

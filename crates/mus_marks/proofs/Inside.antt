@@ -242,10 +242,10 @@ of_range xs a b m x from to is =
     let there : a + n ≡ m = omega (arith, from) in
     let short : n < b - a = omega (arith, from, to) in
     let inside = slice_get_within xs m x is in
-    let behind = length-drop a xs in
+    let following = length-drop a xs in
     let taken = length-take (b - a) (drop a xs) in
     slice_get_read (slice_range xs a b) (length (slice_range xs a b)) n x refl
-    (omega (arith, from, to, inside, behind, taken))
+    (omega (arith, from, to, inside, following, taken))
     (sym (get_or-take (b - a) (drop a xs) n x short
     ∙ get_or-drop a xs n x
     ∙ ap (λ k. get_or xs k x) there

@@ -26,12 +26,12 @@ heads_same x y xs ys bx by (inl e) h = sym e
 heads_same x y xs ys bx by (inr g) (inl e) = e
 heads_same x y xs ys bx by (inr g) (inr h) = absurd (not_both x y (below_in x y xs bx h) (below_in y x ys by g))
 
-behind : (x y : ColumnKey) (xs ys : List ColumnKey)
+following : (x y : ColumnKey) (xs ys : List ColumnKey)
     → x ≡ y → BelowAll x xs
     → ((k : ColumnKey) → Contains (x ∷ xs) k → Contains (y ∷ ys) k)
     → (k : ColumnKey) → Contains xs k
     → Contains ys k
-behind x y xs ys e below all k h = by (first_or k y ys (all k (there k x xs h)))
+following x y xs ys e below all k h = by (first_or k y ys (all k (there k x xs h)))
   where
     by : (y ≡ k) ⊎ Contains ys k → Contains ys k
     by (inl f) =
@@ -50,7 +50,7 @@ unique (x ∷ xs) [] rx ry all only = absurd (none_there x (all x (here x xs)))
 unique (x ∷ xs) (y ∷ ys) rx ry all only =
     let e =
     heads_same x y xs ys rx.0 ry.0 (first_or x y ys (all x (here x xs))) (first_or y x xs (only y (here y ys))) in
-    let more = unique xs ys rx.1 ry.1 (behind x y xs ys e rx.0 all) (behind y x ys xs (sym e) ry.0 only) in
+    let more = unique xs ys rx.1 ry.1 (following x y xs ys e rx.0 all) (following y x ys xs (sym e) ry.0 only) in
     ap (λ z. z ∷ xs) e ∙ ap (λ t. y ∷ t) more
 
 pub same_keys : (xs ys called : List ColumnKey) → AreKeys xs called → AreKeys ys called → xs ≡ ys

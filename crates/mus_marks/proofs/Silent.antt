@@ -17,10 +17,10 @@ use Rattle.mus_drawn.specs.declared.drawn.{DrawnEvent.DrawnEvent, DrawnMeasure.D
 use Rattle.mus_marks.specs.declared.events.WordRoom.{WordRoom}
 use Rattle.mus_marks.specs.declared.events.StaffRoom.{StaffRoom}
 use Rattle.mus_marks.specs.declared.events.TextCounts.{TextCounts}
-use Rattle.mus_marks.specs.Events.{bar_part, change_part, event_marks, events_marks, graces_part, levels_behind}
+use Rattle.mus_marks.specs.Events.{bar_part, change_part, event_marks, events_marks, graces_part, levels_after}
 use Rattle.mus_marks.specs.Events.{levels_in, measures_marks, no_texts, note_part, note_rank, text_place, words_marks}
 use Rattle.mus_marks.specs.Silent.{are_silent, is_silent, is_silent_staff, is_text}
-use Rattle.mus_marks.specs.Staff.{columns_part, first_bar_part, head_part, own_part, texts_behind, written_parts}
+use Rattle.mus_marks.specs.Staff.{columns_part, first_bar_part, head_part, own_part, texts_after, written_parts}
 
 deco_silent : (below : Bool) (d : Deco) → not (is_text d) ≡ true → shown_deco below d ≡ []
 deco_silent false (Deco.Above t) e = grind (arith, e)
@@ -96,7 +96,7 @@ module _ (keys : List ColumnKey) (lengths : List ℕ) (place : Option WordRoom) 
   events_silent m in_head group flags (e ∷ es) silent =
       let parts = and_parts (is_silent e.flat) (list_all (λ x. is_silent x.flat) es) silent in
       let before = levels_in e.plan group flags in
-      let after = levels_behind e.plan es in
+      let after = levels_after e.plan es in
       ap (λ t. t ++ events_marks keys place m false e.plan.group e.plan.flags es)
       (event_silent m in_head before after e parts.0)
       ∙ ap (λ t. event_marks keys None m in_head before after e ++ t)
@@ -131,7 +131,7 @@ module _ (keys : List ColumnKey) (lengths : List ℕ) (a b : ℕ) where
       let parts = and_parts (are_silent (slice_range v.measures a b)) (is_silent_staff a b vs) silent in
       let place = Some (record { room = room; first = first; before = before }) in
       let part = own_part keys lengths place a b v in
-      ap (λ t. part ∷ t) (written_silent room (first + v.verses) (texts_behind (length keys) before part) vs parts.1)
+      ap (λ t. part ∷ t) (written_silent room (first + v.verses) (texts_after (length keys) before part) vs parts.1)
       ∙ ap (λ t. t ∷ map (own_part keys lengths None a b) vs) (own_silent keys lengths place a b v parts.0)
 
   pub any_room : (room other : StaffRoom) (vs : List DrawnVoice)

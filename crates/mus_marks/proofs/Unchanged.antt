@@ -6,7 +6,7 @@ use Rattle.mus_units.specs.declared.key.Meter.{Meter}
 use Rattle.mus_units.specs.declared.key.Sign.{Sign}
 use Rattle.mus_score.specs.declared.score.Changes.{Changes}
 use Rattle.mus_ink.specs.Distances.{entry_gap, entry_step}
-use Rattle.mus_ink.specs.Changes.{behind_clef, change_marks, clef_if, count_if, key_if}
+use Rattle.mus_ink.specs.Changes.{after_clef, change_marks, clef_if, count_if, key_if}
 use Rattle.mus_ink.specs.Signatures.{meter_if}
 use Rattle.mus_marks.specs.Events.{changes_nothing}
 
@@ -17,8 +17,8 @@ nothing_marks c old changes e = by changes.clef changes.key changes.meter e
   where
     by : (clef : Option Clef) (key : Option Key) (meter : Option Meter)
         → (is_none clef && is_none key && is_none meter) ≡ true
-        → clef_if clef ++ key_if c (behind_clef clef + entry_gap) old key
-        ++ meter_if (behind_clef clef + entry_step * count_if old key) meter
+        → clef_if clef ++ key_if c (after_clef clef + entry_gap) old key
+        ++ meter_if (after_clef clef + entry_step * count_if old key) meter
         ≡ []
     by None None None e = refl
     by None None (Some meter) e = grind (arith, e)

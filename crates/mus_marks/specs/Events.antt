@@ -89,15 +89,15 @@ event_marks keys place m in_head before after e =
 abbrev pub levels_in : StemPlan → ℕ → ℕ → ℕ
 levels_in plan group flags = if group == plan.group then flags else 0
 
-abbrev pub levels_behind : StemPlan → List DrawnEvent → ℕ
-levels_behind plan [] = 0
-levels_behind plan (e ∷ es) = levels_in plan e.plan.group e.plan.flags
+abbrev pub levels_after : StemPlan → List DrawnEvent → ℕ
+levels_after plan [] = 0
+levels_after plan (e ∷ es) = levels_in plan e.plan.group e.plan.flags
 
 -- group and flags are those of the event before these, 0 if there is none
 abbrev pub events_marks : List ColumnKey → Option WordRoom → ℕ → Bool → ℕ → ℕ → List DrawnEvent → List Laid
 events_marks keys place m in_head group flags [] = []
 events_marks keys place m in_head group flags (e ∷ es) =
-    event_marks keys place m in_head (levels_in e.plan group flags) (levels_behind e.plan es) e
+    event_marks keys place m in_head (levels_in e.plan group flags) (levels_after e.plan es) e
     ++ events_marks keys place m false e.plan.group e.plan.flags es
 
 -- a bar is at the end of its measure; the first voice of a staff draws it

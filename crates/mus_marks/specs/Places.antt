@@ -4,7 +4,7 @@ use Rattle.mus_laid.specs.declared.laid.Laid.{Laid}
 use Rattle.mus_laid.specs.Ranked.{stands_at_rank}
 use Rattle.mus_marks.specs.declared.events.WordRoom.{WordRoom}
 use Rattle.mus_marks.specs.declared.events.TextCounts.{TextCounts}
-use Rattle.mus_marks.specs.Staff.{is_above, is_below_staff, is_words, texts_behind}
+use Rattle.mus_marks.specs.Staff.{is_above, is_below_staff, is_words, texts_after}
 
 -- the numbers of eight verses from the first on are in range
 abbrev pub HasVerses : Option WordRoom → Type 0
@@ -31,4 +31,4 @@ with_texts_counted (x ∷ xs) texts = with_texts_counted xs (with_text_counted 0
 abbrev pub word_room_after : ℕ → WordRoom → ℕ → List Laid → Bool → WordRoom
 word_room_after columns place verses part false = place
 word_room_after columns place verses part true =
-    record { room = place.room; first = place.first + verses; before = texts_behind columns place.before part }
+    record { room = place.room; first = place.first + verses; before = texts_after columns place.before part }

@@ -101,8 +101,8 @@ texts_with before part r =
     record { above = before.above + count_by (text_above r) part; below = before.below + count_by (text_below r) part }
 
 -- of n columns
-abbrev pub texts_behind : ℕ → List TextCounts → List Laid → List TextCounts
-texts_behind n before part = map (λ r. texts_with (slice_index_or before r no_texts) part r) (range_with_len 0 n)
+abbrev pub texts_after : ℕ → List TextCounts → List Laid → List TextCounts
+texts_after n before part = map (λ r. texts_with (slice_index_or before r no_texts) part r) (range_with_len 0 n)
 
 -- the voices of a staff one after another, each after the verses and the texts of those before it
 abbrev pub written_parts : List ColumnKey
@@ -110,7 +110,7 @@ abbrev pub written_parts : List ColumnKey
 written_parts keys lengths room a b first before [] = []
 written_parts keys lengths room a b first before (v ∷ vs) =
     let part = own_part keys lengths (Some (record { room = room; first = first; before = before })) a b v in
-    part ∷ written_parts keys lengths room a b (first + v.verses) (texts_behind (length keys) before part) vs
+    part ∷ written_parts keys lengths room a b (first + v.verses) (texts_after (length keys) before part) vs
 
 -- marks, and how low and how high they reach
 unfoldable pub staff_over : List Laid → StaffMarks

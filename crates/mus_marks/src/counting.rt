@@ -2,7 +2,7 @@ ghost use Rattle.std.specs.Prelude.{◌≡◌, map, slice_index_or, IfOk, OnOk};
 ghost use Rattle.std.specs.List.{range_with_len};
 ghost use Rattle.mus_marks.specs.Events.{no_texts};
 ghost use Rattle.mus_marks.specs.Places.{text_counted, with_text_counted, with_texts_counted};
-ghost use Rattle.mus_marks.specs.Staff.{is_words, texts_behind};
+ghost use Rattle.mus_marks.specs.Staff.{is_words, texts_after};
 
 use crate::events::{TextCounts, texts_at};
 use mus_laid::{Laid, Lane, Mark, anchor_rank};
@@ -66,13 +66,13 @@ fn texts_of(alloc: Global, columns: usize, before: &[TextCounts]) -> Result<Row<
 
 /// Returns the text counts of `columns` columns after those of a part, given what they had `before`.
 #[tactic(auto, using(crate::proofs::Counts::all_counted))]
-pub(crate) fn texts_behind(
+pub(crate) fn texts_after(
     alloc: Global,
     columns: usize,
     before: &[TextCounts],
     part: &[Laid],
 ) -> Result<Row<TextCounts>, Memory>
-    ensures { IfOk result (λ r. r ≡ texts_behind columns before.now part.now) }
+    ensures { IfOk result (λ r. r ≡ texts_after columns before.now part.now) }
 {
     let mut texts = texts_of(alloc, columns, before)?;
     count_marks(&mut texts, part)?;

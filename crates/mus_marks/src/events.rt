@@ -8,7 +8,7 @@ ghost use Rattle.mus_drawn.specs.Drawn.{raise_of};
 ghost use Rattle.mus_drawn.specs.Good.{AllCanGrace, AreGoodDrawn, IsGoodDrawn};
 ghost use Rattle.mus_marks.specs.Events.{note_rank, changes_nothing, change_part, graces_from, graces_part, note_part};
 ghost use Rattle.mus_marks.specs.Events.{no_texts, text_place, words_marks, words_part, event_marks, levels_in};
-ghost use Rattle.mus_marks.specs.Events.{levels_behind, events_marks};
+ghost use Rattle.mus_marks.specs.Events.{levels_after, events_marks};
 ghost use Rattle.mus_marks.specs.Places.{HasVerses};
 
 use crate::silence::is_silent;
@@ -228,10 +228,10 @@ fn levels_in(plan: &StemPlan, group: u32, flags: u8) -> u8
 }
 
 /// Returns the levels of the next event that are in a plan's beam.
-fn levels_behind(plan: &StemPlan, behind: &[DrawnEvent<'_>]) -> u8
-    ensures { result ≡ levels_behind plan.now behind.now }
+fn levels_after(plan: &StemPlan, following: &[DrawnEvent<'_>]) -> u8
+    ensures { result ≡ levels_after plan.now following.now }
 {
-    match behind {
+    match following {
         [] => 0,
         [next, ..] => levels_in(plan, next.plan.group, next.plan.flags),
     }
@@ -256,14 +256,14 @@ pub(crate) fn put_events(
 {
     let mut rest = events;
     let (mut drawn, mut group, mut flags) = (in_head, 0, 0);
-    while let [e, behind @ ..] = rest {
+    while let [e, following @ ..] = rest {
         let before = levels_in(&e.plan, group, flags);
-        let after = levels_behind(&e.plan, behind);
+        let after = levels_after(&e.plan, following);
         put_event(pen, keys, place, measure, drawn, before, after, e)?;
         drawn = false;
         group = e.plan.group;
         flags = e.plan.flags;
-        rest = behind;
+        rest = following;
     }
     Ok(())
 }

@@ -10,7 +10,7 @@ ghost use Rattle.mus_marks.specs.Staff.{CoversLines, own_part, room_over, staff_
 ghost use Rattle.mus_marks.specs.Staff.{written_parts};
 ghost use Rattle.mus_marks.specs.System.{is_drawn_lower};
 
-use crate::counting::texts_behind;
+use crate::counting::texts_after;
 use crate::events::{StaffRoom, WordRoom};
 use crate::measures::put_columns_part;
 use crate::silence::are_silent;
@@ -180,7 +180,7 @@ fn word_room_after(
     Ok(WordRoom {
         room: place.room,
         first: place.first + verses,
-        before: texts_behind(alloc, columns, place.before.as_slice(), part)?,
+        before: texts_after(alloc, columns, place.before.as_slice(), part)?,
     })
 }
 
@@ -222,13 +222,13 @@ fn written_parts(
         before: Row::new(alloc),
     };
     let mut rest = voices;
-    while let [v, behind @ ..] = rest {
+    while let [v, following @ ..] = rest {
         let part = written_part(alloc, frame, &place, v)?;
-        let follows = !behind.is_empty();
+        let follows = !following.is_empty();
         let columns = frame.keys.len();
         place = word_room_after(alloc, columns, place, v.verses, part.as_slice(), follows)?;
         parts.push(part)?;
-        rest = behind;
+        rest = following;
     }
     Ok(parts)
 }
@@ -288,8 +288,8 @@ pub(crate) fn staves(
 {
     let mut staves = Row::new(alloc);
     let mut rest = voices;
-    while let [_, behind @ ..] = rest {
-        let count = lower_count(behind) + 1;
+    while let [_, following @ ..] = rest {
+        let count = lower_count(following) + 1;
         staves.push(staff_marks(alloc, frame, &rest[..count])?)?;
         rest = &rest[count..];
     }

@@ -67,9 +67,9 @@ event_keys m tick in_head signed f =
 -- system's first measure
 abbrev pub events_keys : ℕ → Bool → Bool → List Flat → List Flat → List ColumnKey
 events_keys m in_head signed before [] = []
-events_keys m in_head signed before (f ∷ behind) =
+events_keys m in_head signed before (f ∷ following) =
     event_keys m (total_ticks before) in_head signed f
-    ++ events_keys m false (signed_after signed f.event.changes.key) (f ∷ before) behind
+    ++ events_keys m false (signed_after signed f.event.changes.key) (f ∷ before) following
 
 abbrev pub signed_through : Bool → List Flat → Bool
 signed_through signed [] = signed
@@ -82,9 +82,9 @@ measures_keys lengths m in_head signed (x ∷ xs) =
     events_keys m in_head signed [] (flats_of x.body) ++ key_at m (slice_index lengths m) Class.Bar 0
     ∷ measures_keys lengths (m + 1) false (signed_through signed (flats_of x.body)) xs
 
-abbrev pub signed_behind : Bool → List Measure → Bool
-signed_behind signed [] = signed
-signed_behind signed (m ∷ ms) = signed_behind (signed_through signed (flats_of m.body)) ms
+abbrev pub signed_from : Bool → List Measure → Bool
+signed_from signed [] = signed
+signed_from signed (m ∷ ms) = signed_from (signed_through signed (flats_of m.body)) ms
 
 -- the bar before the first measure
 abbrev pub first_keys : ℕ → Bar → List ColumnKey
@@ -92,7 +92,7 @@ first_keys a bar = if (a == 0) && has_features bar then key_at 0 0 Class.First 0
 
 -- whether the key in force before measure a has entries
 abbrev pub signed_at : ℕ → Voice → Bool
-signed_at a v = signed_behind (has_entries v.key) (take a v.measures)
+signed_at a v = signed_from (has_entries v.key) (take a v.measures)
 
 abbrev pub all_keys : List ℕ → ℕ → ℕ → Voice → List ColumnKey
 all_keys lengths a b v =

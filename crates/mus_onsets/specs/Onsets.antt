@@ -13,9 +13,9 @@ use Rattle.mus_onsets.specs.{declared.times.Onset.Onset, declared.times.Timeline
 -- the events of a measure in turn, each with those before it
 abbrev pub event_onsets : ℕ → ℕ → List Flat → List Flat → List Onset
 event_onsets voice measure before [] = []
-event_onsets voice measure before (f ∷ behind) =
+event_onsets voice measure before (f ∷ following) =
     record { voice = voice; measure = measure; event = f.event.id; tick = total_ticks before }
-    ∷ event_onsets voice measure (f ∷ before) behind
+    ∷ event_onsets voice measure (f ∷ before) following
 
 abbrev pub measure_onsets : ℕ → ℕ → List Measure → List Onset
 measure_onsets voice k [] = []

@@ -21,35 +21,35 @@ use Rattle.mus_stems.proofs.RunLaws.{runs_are_maximal, runs_length, runs_of_whol
 use Rattle.mus_stems.proofs.EndLaws.{run_length}
 
 -- ids that rise from event to event, the first above an earlier id
-abbrev RiseBehind : ℕ → List StemInput → Type 0
-RiseBehind id [] = Unit {0}
-RiseBehind id (e ∷ es) = (id < e.id) × RiseBehind e.id es
+abbrev RiseAfter : ℕ → List StemInput → Type 0
+RiseAfter id [] = Unit {0}
+RiseAfter id (e ∷ es) = (id < e.id) × RiseAfter e.id es
 
 abbrev AllRise : List StemInput → Type 0
 AllRise [] = Unit {0}
-AllRise (e ∷ es) = RiseBehind e.id es
+AllRise (e ∷ es) = RiseAfter e.id es
 
-rise_behind : (e : StemInput) (es : List StemInput) → IdsRise (e ∷ es) → RiseBehind e.id es
-rise_behind e [] h = tt {0}
-rise_behind e (d ∷ es) h =
+rise_after : (e : StemInput) (es : List StemInput) → IdsRise (e ∷ es) → RiseAfter e.id es
+rise_after e [] h = tt {0}
+rise_after e (d ∷ es) h =
     let ids = map (λ (e : StemInput). e.id) (d ∷ es) in
-    let behind : IsStrictlyIncreasing ids = (λ k l.
+    let following : IsStrictlyIncreasing ids = (λ k l.
     subst (λ n. slice_index ids k < slice_index (e.id ∷ ids) n) {x = suc k + 1} {y = suc (k + 1)} (omega arith)
     (h (suc k) (omega (arith, l)))) in
-    (h 0 (omega arith), rise_behind d es behind)
+    (h 0 (omega arith), rise_after d es following)
 
 all_rise : (es : List StemInput) → IdsRise es → AllRise es
 all_rise [] h = tt {0}
-all_rise (e ∷ es) h = rise_behind e es h
+all_rise (e ∷ es) h = rise_after e es h
 
 -- the events after some of the events rise too, and above the id before them
-behind_rises : (id : ℕ) (es more : List StemInput) → RiseBehind id (es ++ more) → AllRise more
-behind_rises id [] [] rise = tt {0}
-behind_rises id [] (d ∷ more) rise = rise.1
-behind_rises id (e ∷ es) more rise = behind_rises e.id es more rise.1
+after_rises : (id : ℕ) (es more : List StemInput) → RiseAfter id (es ++ more) → AllRise more
+after_rises id [] [] rise = tt {0}
+after_rises id [] (d ∷ more) rise = rise.1
+after_rises id (e ∷ es) more rise = after_rises e.id es more rise.1
 
 above : (id : ℕ) (es : List StemInput) (d : StemInput) (more : List StemInput)
-    → RiseBehind id (es ++ d ∷ more) → id < d.id
+    → RiseAfter id (es ++ d ∷ more) → id < d.id
 above id [] d more rise = rise.0
 above id (e ∷ es) d more rise = let h = above e.id es d more rise.1 in let g = rise.0 in omega (arith, g, h)
 
@@ -60,7 +60,7 @@ BeginAbove id ([] ∷ rs) = ⊥
 BeginAbove id ((d ∷ r) ∷ rs) = id < d.id
 
 begin_above : (joined : StemInput → StemInput → Bool) (id : ℕ) (es : List StemInput) (rs : List (List StemInput))
-    → AreRuns joined rs → RiseBehind id (es ++ flat_map (λ r. r) rs) → BeginAbove id rs
+    → AreRuns joined rs → RiseAfter id (es ++ flat_map (λ r. r) rs) → BeginAbove id rs
 begin_above joined id es [] are rise = tt {0}
 begin_above joined id es ([] ∷ rs) are rise = are
 begin_above joined id es ((d ∷ r) ∷ rs) are rise = above id es d (r ++ flat_map (λ r. r) rs) rise
@@ -95,7 +95,7 @@ groups_are_runs wish joined ((e ∷ es) ∷ rs) are rise =
     let to = run_end up (e ∷ es) in (
       along_joined up to e.id e es,
       along_ends wish up to e.id e es rs (begin_above joined e.id es rs are.2 rise),
-      groups_are_runs wish joined rs are.2 (behind_rises e.id es (flat_map (λ r. r) rs) rise),
+      groups_are_runs wish joined rs are.2 (after_rises e.id es (flat_map (λ r. r) rs) rise),
     )
 
 pub beams_by_groups : BeamsByGroups

@@ -42,11 +42,11 @@ unfolding IsFrom
 later v k t (inl lt) = inl lt
 later v k t (inr h) = inr (h.0, (let g = h.1 in omega (arith, g)))
 
-behind : (v : ℤ) (k : ℕ) (signed : Bool) (t : Taken)
+following : (v : ℤ) (k : ℕ) (signed : Bool) (t : Taken)
     → IsFrom v (k + 1) t → IsBefore (record { place = k; level = v; signed = signed }) t
 unfolding IsFrom
-behind v k signed t (inl lt) = inl lt
-behind v k signed t (inr h) = inr (h.0, (let g = h.1 in omega (arith, g)))
+following v k signed t (inl lt) = inl lt
+following v k signed t (inr h) = inr (h.0, (let g = h.1 in omega (arith, g)))
 
 at_order : (up : Bool) (v : ℤ) (k : ℕ) (ss : List HeadPosition) (rest : List Taken)
     → AreTakenInOrder rest → AllByRecursion (λ t. v <ℤ t.level) rest
@@ -67,7 +67,8 @@ at_order up v k (s ∷ ss) rest order above =
         (taken_at up v (k + 1) ss rest))
     step true h = (
       (
-        all_of (IsFrom v (k + 1)) (IsBefore (record { place = k; level = v; signed = s.signed })) (behind v k s.signed)
+        all_of (IsFrom v (k + 1)) (IsBefore (record { place = k; level = v; signed = s.signed }))
+            (following v k s.signed)
             (taken_at up v (k + 1) ss rest) h.1,
         h.0,
       ),
@@ -216,18 +217,18 @@ taken_are up ss near = record {
 }
 
 -- two ordered lists of the same heads are equal
-fronts : (t u : Taken) (ts us : List Taken)
+prefixes : (t u : Taken) (ts us : List Taken)
     → AreTakenInOrder (t ∷ ts) → AreTakenInOrder (u ∷ us) → IsAmong (u ∷ us) t → IsAmong (t ∷ ts) u → t ≡ u
-fronts t u ts us ot ou (inl e) back = sym e
-fronts t u ts us ot ou (inr g) (inl e) = e
-fronts t u ts us ot ou (inr g) (inr h) =
+prefixes t u ts us ot ou (inl e) back = sym e
+prefixes t u ts us ot ou (inr g) (inl e) = e
+prefixes t u ts us ot ou (inr g) (inr h) =
     absurd (not_both t u (of_each (IsBefore t) ts u ot.0 h) (of_each (IsBefore u) us t ou.0 g))
 
-behind_front : (t u x : Taken) (ts us : List Taken)
+after_prefix_is : (t u x : Taken) (ts us : List Taken)
     → AreTakenInOrder (t ∷ ts) → t ≡ u → IsAmong ts x → IsAmong (u ∷ us) x → IsAmong us x
-behind_front t u x ts us ot e among (inl g) =
+after_prefix_is t u x ts us ot e among (inl g) =
     absurd (not_itself x (subst (λ y. IsBefore y x) (e ∙ g) (of_each (IsBefore t) ts x ot.0 among)))
-behind_front t u x ts us ot e among (inr h) = h
+after_prefix_is t u x ts us ot e among (inr h) = h
 
 orders_same : (ts us : List Taken)
     → AreTakenInOrder ts → AreTakenInOrder us → ((t : Taken) → IsAmong ts t → IsAmong us t)
@@ -237,10 +238,10 @@ orders_same [] [] ot ou there back = refl
 orders_same [] (u ∷ us) ot ou there back = absurd (back u (inl refl))
 orders_same (t ∷ ts) [] ot ou there back = absurd (there t (inl refl))
 orders_same (t ∷ ts) (u ∷ us) ot ou there back =
-    let e : t ≡ u = fronts t u ts us ot ou (there t (inl refl)) (back u (inl refl)) in
+    let e : t ≡ u = prefixes t u ts us ot ou (there t (inl refl)) (back u (inl refl)) in
     let more : ts ≡ us = orders_same ts us ot.1 ou.1
-    (λ x h. behind_front t u x ts us ot e h (there x (inr h)))
-    (λ x h. behind_front u t x us ts ou (sym e) h (back x (inr h))) in
+    (λ x h. after_prefix_is t u x ts us ot e h (there x (inr h)))
+    (λ x h. after_prefix_is u t x us ts ou (sym e) h (back x (inr h))) in
     λ i. e i ∷ more i
 
 all_there : (up : Bool) (ss : List HeadPosition) (ts us : List Taken)

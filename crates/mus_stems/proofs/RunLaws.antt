@@ -4,11 +4,11 @@ use Rattle.std.proofs.Common.{sym, ◌∙◌, ap, append_assoc, length, length-a
 use Rattle.std.specs.List.{flat_map, AllByRecursion}
 use Rattle.mus_stems.specs.Runs.{runs, put_before, run_more, JoinedAfter, EndsBefore, AreRuns, AreMaximalRuns}
 
-pub runs_front : {A : Type 0} (joined : A → A → Bool) (d : A) (es : List A) →
+pub runs_prefix : {A : Type 0} (joined : A → A → Bool) (d : A) (es : List A) →
     runs joined (d ∷ es) ≡ (d ∷ take (run_more joined d es) es) ∷ runs joined (drop (run_more joined d es) es)
-runs_front joined d [] = refl
-runs_front joined d (e ∷ es) =
-    ap (λ t. put_before joined d t) (runs_front joined e es) ∙ step (joined d e) (runs_front joined e es)
+runs_prefix joined d [] = refl
+runs_prefix joined d (e ∷ es) =
+    ap (λ t. put_before joined d t) (runs_prefix joined e es) ∙ step (joined d e) (runs_prefix joined e es)
   where
     step : (b : Bool)
         → runs joined (e ∷ es) ≡ (e ∷ take (run_more joined e es) es) ∷ runs joined (drop (run_more joined e es) es)
@@ -38,10 +38,10 @@ pub run_is : {A : Type 0} (joined : A → A → Bool) (d : A) (more rest run : L
     → n ≡ run_more joined d more → run ≡ take (n + 1) rest → run ≡ d ∷ take (run_more joined d more) more
 run_is joined d more rest run n e1 e2 e3 = e3 ∙ rw (e1, e2, one_past (run_more joined d more)) refl
 
-behind_is : {A : Type 0} (joined : A → A → Bool) (d : A) (more rest after : List A) (n : ℕ) →
+after_is : {A : Type 0} (joined : A → A → Bool) (d : A) (more rest after : List A) (n : ℕ) →
     rest ≡ d ∷ more
     → n ≡ run_more joined d more → after ≡ drop (n + 1) rest → after ≡ drop (run_more joined d more) more
-behind_is joined d more rest after n e1 e2 e4 = e4 ∙ rw (e1, e2, one_past (run_more joined d more)) refl
+after_is joined d more rest after n e1 e2 e4 = e4 ∙ rw (e1, e2, one_past (run_more joined d more)) refl
 
 -- one turn of a loop over runs, which adds the result for the first run
 pub run_step : {A B : Type 0} (joined : A → A → Bool) (f : List A → List B) (d : A) (more rest run after : List A)
@@ -52,10 +52,10 @@ pub run_step : {A B : Type 0} (joined : A → A → Bool) (f : List A → List B
 run_step joined f d more rest run after n out new whole e1 e2 e3 e4 e5 inv =
     let k = run_more joined d more in
     let r = run_is joined d more rest run n e1 e2 e3 in
-    let a = behind_is joined d more rest after n e1 e2 e4 in
+    let a = after_is joined d more rest after n e1 e2 e4 in
     rw (e5, r, a)
     (append_assoc out (f (d ∷ take k more)) (flat_map f (runs joined (drop k more)))
-    ∙ sym (ap (λ t. out ++ flat_map f t) (ap (λ t. runs joined t) e1 ∙ runs_front joined d more))
+    ∙ sym (ap (λ t. out ++ flat_map f t) (ap (λ t. runs joined t) e1 ∙ runs_prefix joined d more))
     ∙ inv)
 
 -- an element before runs gives runs of the longer list
@@ -132,12 +132,12 @@ put_apart joined d [] ends = refl
 put_apart joined d ([] ∷ rs) ends = absurd ends
 put_apart joined d ((e ∷ r) ∷ rs) ends = ap (λ b. cond b ((d ∷ e ∷ r) ∷ rs) ((d ∷ []) ∷ (e ∷ r) ∷ rs)) ends
 
-front_run : {A : Type 0} (joined : A → A → Bool) (d : A) (es more : List A) (rs : List (List A)) →
+prefix_run : {A : Type 0} (joined : A → A → Bool) (d : A) (es more : List A) (rs : List (List A)) →
     JoinedAfter joined d es
     → EndsBefore joined d es rs → runs joined more ≡ rs → runs joined (d ∷ es ++ more) ≡ (d ∷ es) ∷ rs
-front_run joined d [] more rs all ends h = ap (λ t. put_before joined d t) h ∙ put_apart joined d rs ends
-front_run joined d (e ∷ es) more rs all ends h =
-    ap (λ t. put_before joined d t) (front_run joined e es more rs all.1 ends h)
+prefix_run joined d [] more rs all ends h = ap (λ t. put_before joined d t) h ∙ put_apart joined d rs ends
+prefix_run joined d (e ∷ es) more rs all ends h =
+    ap (λ t. put_before joined d t) (prefix_run joined e es more rs all.1 ends h)
     ∙ ap (λ b. cond b ((d ∷ e ∷ es) ∷ rs) ((d ∷ []) ∷ (e ∷ es) ∷ rs)) all.0
 
 pub runs_of_whole : {A : Type 0} (joined : A → A → Bool) (rs : List (List A))
@@ -145,7 +145,7 @@ pub runs_of_whole : {A : Type 0} (joined : A → A → Bool) (rs : List (List A)
 runs_of_whole joined [] are = refl
 runs_of_whole joined ([] ∷ rs) are = absurd are
 runs_of_whole joined ((e ∷ es) ∷ rs) are =
-    front_run joined e es (flat_map (λ r. r) rs) rs are.0 are.1 (runs_of_whole joined rs are.2)
+    prefix_run joined e es (flat_map (λ r. r) rs) rs are.0 are.1 (runs_of_whole joined rs are.2)
 
 pub maximal_runs : {A : Type 0} (joined : A → A → Bool) (es : List A) (rs : List (List A))
     → AreMaximalRuns joined es rs → rs ≡ runs joined es

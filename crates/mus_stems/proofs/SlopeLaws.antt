@@ -133,10 +133,10 @@ line_goes a b z beam others more line e f g h are rise =
     )
 
 -- the abscissas of a beam rise, and so do those after it
-rise_front : (a : SlopeInput) (es : List SlopeInput)
+rise_prefix : (a : SlopeInput) (es : List SlopeInput)
     → RisesAfter a es → RiseFrom a (take (run_more shares_beam a es) es)
-rise_front a [] r = tt {0}
-rise_front a (b ∷ bs) r = step (shares_beam a b) r.0 (rise_front b bs r.1)
+rise_prefix a [] r = tt {0}
+rise_prefix a (b ∷ bs) r = step (shares_beam a b) r.0 (rise_prefix b bs r.1)
   where
     step : (t : Bool) → (t ≡ true → a.x <ℤ b.x) → RiseFrom b (take (run_more shares_beam b bs) bs)
         → RiseFrom a (take (cond t (suc (run_more shares_beam b bs)) 0) (b ∷ bs))
@@ -146,14 +146,14 @@ rise_front a (b ∷ bs) r = step (shares_beam a b) r.0 (rise_front b bs r.1)
 pub beam_rises : (a : SlopeInput) (more rest beam : List SlopeInput) (n : ℕ)
     → rest ≡ a ∷ more → n ≡ run_more shares_beam a more → beam ≡ take (n + 1) rest → RisesInBeams rest → Rise beam
 beam_rises a more rest beam n e1 e2 e3 r =
-    subst Rise (sym (run_is shares_beam a more rest beam n e1 e2 e3)) (rise_front a more (subst RisesInBeams e1 r))
+    subst Rise (sym (run_is shares_beam a more rest beam n e1 e2 e3)) (rise_prefix a more (subst RisesInBeams e1 r))
 
-pub rise_behind : (n : ℕ) (es : List SlopeInput) → RisesInBeams es → RisesInBeams (drop n es)
-rise_behind zero es r = r
-rise_behind (suc n) [] r = r
-rise_behind (suc zero) (a ∷ []) r = tt {0}
-rise_behind (suc (suc n)) (a ∷ []) r = tt {0}
-rise_behind (suc n) (a ∷ b ∷ bs) r = rise_behind n (b ∷ bs) r.1
+pub rise_after : (n : ℕ) (es : List SlopeInput) → RisesInBeams es → RisesInBeams (drop n es)
+rise_after zero es r = r
+rise_after (suc n) [] r = r
+rise_after (suc zero) (a ∷ []) r = tt {0}
+rise_after (suc (suc n)) (a ∷ []) r = tt {0}
+rise_after (suc n) (a ∷ b ∷ bs) r = rise_after n (b ∷ bs) r.1
 
 -- as many ends as events
 ends_along_length : (line : BeamLine) (base : ℤ) (es : List SlopeInput) → length (ends_along line base es) ≡ length es

@@ -26,7 +26,7 @@ use Rattle.mus_onsets.specs.declared.times.Timeline.{Timeline}
 use Rattle.mus_onsets.specs.Onsets.{timeline_of}
 use Rattle.mus_onsets.specs.Keys.{all_keys, AreKeys, bar_key, called_keys, event_keys, events_keys, first_keys}
 use Rattle.mus_onsets.specs.Keys.{grace_keys, has_entries, head_key, IsInSystem, key_at, key_has_mark, keys_by}
-use Rattle.mus_onsets.specs.Keys.{measure_keys, measures_keys, meter_has_mark, signed_after, signed_behind}
+use Rattle.mus_onsets.specs.Keys.{measure_keys, measures_keys, meter_has_mark, signed_after, signed_from}
 use Rattle.mus_onsets.specs.Keys.{signed_through, voice_keys}
 use Rattle.mus_onsets.specs.declared.keys.Class.{Class}
 use Rattle.mus_onsets.specs.declared.keys.ColumnKey.{ColumnKey}
@@ -34,7 +34,7 @@ use Rattle.mus_drawn.specs.declared.drawn.DrawnVoice.{DrawnVoice}
 use Rattle.mus_drawn.specs.declared.drawn.Style.{Style}
 use Rattle.mus_drawn.specs.declared.standing.StaffState.{StaffState}
 use Rattle.mus_drawn.specs.Drawn.{drawn_events, drawn_measure, drawn_measures, drawn_voice, old_signs, standing_after}
-use Rattle.mus_drawn.specs.Drawn.{standing_behind, standing_of, style_of}
+use Rattle.mus_drawn.specs.Drawn.{staff_state_after, standing_of, style_of}
 use Rattle.mus_time.specs.Columns.{events_columns, keys_called, measures_columns, staff_columns, voice_columns}
 
 -- ---- the columns of drawn events
@@ -96,7 +96,7 @@ measure_same m in_head signed style now x s =
     (plans_count style.wish now.clef (flats_of x.body))
 
 through_same : (signed : Bool) (now : StaffState) (fs : List Flat)
-    → signed ≡ has_entries now.key → signed_through signed fs ≡ has_entries (standing_behind now fs).key
+    → signed ≡ has_entries now.key → signed_through signed fs ≡ has_entries (staff_state_after now fs).key
 through_same signed now [] s = s
 through_same signed now (f ∷ fs) s =
     through_same (signed_after signed f.event.changes.key) (standing_after now f.event.changes) fs
@@ -114,18 +114,18 @@ module _ (lengths : List ℕ) (style : Style) where
       ap (λ t. t ++ bar_key lengths m ∷ measures_keys lengths (m + 1) false (signed_through signed fs) (take n xs))
       (measure_same m in_head signed style now x s)
       ∙ ap (λ t. events_columns m in_head (drawn_measure style now x).events ++ bar_key lengths m ∷ t)
-      (first_measures (m + 1) n false (signed_through signed fs) (standing_behind now fs) xs
+      (first_measures (m + 1) n false (signed_through signed fs) (staff_state_after now fs) xs
       (through_same signed now fs s))
 
   some_measures : (m a n : ℕ) (in_head signed : Bool) (now : StaffState) (xs : List Measure)
       → signed ≡ has_entries now.key
-      → measures_keys lengths m in_head (signed_behind signed (take a xs)) (take n (drop a xs))
+      → measures_keys lengths m in_head (signed_from signed (take a xs)) (take n (drop a xs))
       ≡ measures_columns lengths m in_head (take n (drop a (drawn_measures style now xs)))
   some_measures m zero n in_head signed now xs s = first_measures m n in_head signed now xs s
   some_measures m (suc a) zero in_head signed now [] s = refl
   some_measures m (suc a) (suc n) in_head signed now [] s = refl
   some_measures m (suc a) n in_head signed now (x ∷ xs) s =
-      some_measures m a n in_head (signed_through signed (flats_of x.body)) (standing_behind now (flats_of x.body)) xs
+      some_measures m a n in_head (signed_through signed (flats_of x.body)) (staff_state_after now (flats_of x.body)) xs
       (through_same signed now (flats_of x.body) s)
 
 -- a voice with a staff of its own calls for the columns of its drawing, and a lower one for those of its notes and

@@ -13,11 +13,11 @@ use Rattle.mus_onsets.proofs.Places.{length_of_lengths}
 use Rattle.mus_drawn.specs.declared.standing.StaffState.{StaffState}
 use Rattle.mus_drawn.specs.declared.drawn.DrawnVoice.{DrawnVoice}
 use Rattle.mus_drawn.specs.declared.drawn.Style.{Style}
-use Rattle.mus_drawn.specs.Drawn.{drawn_measures, drawn_voice, standing_behind, standing_of, style_of}
+use Rattle.mus_drawn.specs.Drawn.{drawn_measures, drawn_voice, staff_state_after, standing_of, style_of}
 
 drawn_count : (style : Style) (now : StaffState) (ms : List Measure) → length (drawn_measures style now ms) ≡ length ms
 drawn_count style now [] = refl
-drawn_count style now (m ∷ ms) = ap suc (drawn_count style (standing_behind now (flats_of m.body)) ms)
+drawn_count style now (m ∷ ms) = ap suc (drawn_count style (staff_state_after now (flats_of m.body)) ms)
 
 pub voice_count : (v : Voice) → length (drawn_voice v).measures ≡ length v.measures
 unfolding drawn_voice

@@ -61,11 +61,11 @@ descends [] = true
 descends (x ∷ xs) =
     (list_all (λ y. nat_lt (units_of y) (units_of x)) xs && nat_le x.dots 3) && (nat_le 8 (units_of x) && descends xs)
 
-shorter_behind : (v : Value) (u : ℕ) (xs : List Value)
+shorter_after : (v : Value) (u : ℕ) (xs : List Value)
     → list_all (λ y. nat_lt (units_of y) u) xs ≡ true → IsIn xs v → units_of v < u
-shorter_behind v u [] h i = absurd i
-shorter_behind v u (x ∷ xs) h (inl e) = subst (λ y. units_of y < u) (sym e) (grind (arith, nat_tests))
-shorter_behind v u (x ∷ xs) h (inr i) = shorter_behind v u xs (grind (arith, nat_tests)) i
+shorter_after v u [] h i = absurd i
+shorter_after v u (x ∷ xs) h (inl e) = subst (λ y. units_of y < u) (sym e) (grind (arith, nat_tests))
+shorter_after v u (x ∷ xs) h (inr i) = shorter_after v u xs (grind (arith, nat_tests)) i
 
 -- the first value that fits is the longest
 first_is : (left : ℕ) (v : Value) (xs : List Value)
@@ -76,10 +76,10 @@ first_is left v (x ∷ xs) d is (inl e) =
     (let k : units_of x ≤ left = subst (λ y. units_of y ≤ left) e is.within in grind (arith, nat_tests)) in
     rw (fits, e) refl
 first_is left v (x ∷ xs) d is (inr i) =
-    let behind : list_all (λ y. nat_lt (units_of y) (units_of x)) xs ≡ true = grind (arith, nat_tests) in
+    let following : list_all (λ y. nat_lt (units_of y) (units_of x)) xs ≡ true = grind (arith, nat_tests) in
     let dots : x.dots ≤ 3 = grind (arith, nat_tests) in
     let rest : descends xs ≡ true = grind (arith, nat_tests) in
-    let shorter = shorter_behind v (units_of x) xs behind i in
+    let shorter = shorter_after v (units_of x) xs following i in
     let none : nat_le (units_of x) left ≡ false =
     (let m : units_of x ≤ left → units_of x ≤ units_of v = is.longest x dots in grind (arith, nat_tests)) in
     rw none (first_is left v xs rest is i)

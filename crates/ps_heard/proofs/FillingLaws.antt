@@ -88,15 +88,15 @@ glyph_one : (c : HeardColumn) (b : Bool) (ns : List HeardGlyph)
 glyph_one c true ns = ap (λ t. record { leads = c.leads; notes = c.notes ++ ns; ties = t }) (append-nil c.ties)
 glyph_one c false ns = nothing_one c
 
-glyph_told : (g : Glyph) (x dx dy : ℤ) (ys : List ℤ) (cs : List HeardColumn)
+glyph_known : (g : Glyph) (x dx dy : ℤ) (ys : List ℤ) (cs : List HeardColumn)
     → with_page_mark (PageMark.Glyph g x dx dy) ys cs ≡ at_place x (with_note (role_of g dy) dy) ys cs
-glyph_told g x dx dy [] cs = refl
-glyph_told g x dx dy (y ∷ ys) [] = refl
-glyph_told g x dx dy (y ∷ ys) (c ∷ cs) =
+glyph_known g x dx dy [] cs = refl
+glyph_known g x dx dy (y ∷ ys) [] = refl
+glyph_known g x dx dy (y ∷ ys) (c ∷ cs) =
     joined (record c { notes = c.notes ++ glyphs_at y (PageMark.Glyph g x dx dy); ties = c.ties ++ [] })
     (if int_eq x y then with_note (role_of g dy) dy c else c)
     (with_page_mark (PageMark.Glyph g x dx dy) ys cs) (at_place x (with_note (role_of g dy) dy) ys cs)
-    (glyph_one c (int_eq x y) (noted (role_of g dy) dy)) (glyph_told g x dx dy ys cs)
+    (glyph_one c (int_eq x y) (noted (role_of g dy) dy)) (glyph_known g x dx dy ys cs)
 
 -- the same, as passed to the code
 pub glyph_passed : (g : Glyph) (x dx dy at low high : ℤ) (role : Role) (ys : List ℤ) (cs new : List HeardColumn)
@@ -106,7 +106,7 @@ glyph_passed g x dx dy at low high role ys cs new e f h k is =
     is
     ∙ ap (λ z. at_place z (with_note role high) ys cs) e
     ∙ ap (λ r. at_place x (with_note r high) ys cs) (k ∙ ap (role_of g) f)
-    ∙ ap (λ z. at_place x (with_note (role_of g dy) z) ys cs) h ∙ sym (glyph_told g x dx dy ys cs)
+    ∙ ap (λ z. at_place x (with_note (role_of g dy) z) ys cs) h ∙ sym (glyph_known g x dx dy ys cs)
 
 tie_one : (c : HeardColumn) (b t : Bool) (dy : ℤ)
     → t ≡ true
@@ -117,16 +117,16 @@ tie_one c true true dy e =
     ap (λ t. record { leads = c.leads; notes = t; ties = c.ties ++ dy ∷ [] }) (append-nil c.notes)
 tie_one c false true dy e = nothing_one c
 
-tie_told : (x1 x2 from to bulge : ℤ) (ys : List ℤ) (cs : List HeardColumn)
+tie_known : (x1 x2 from to bulge : ℤ) (ys : List ℤ) (cs : List HeardColumn)
     → bulges_as_tie bulge ≡ true
     → with_page_mark (PageMark.Arc x1 x2 from to bulge) ys cs ≡ at_place x2 (with_tie_at (to -ℤ bulge)) ys cs
-tie_told x1 x2 from to bulge [] cs e = refl
-tie_told x1 x2 from to bulge (y ∷ ys) [] e = refl
-tie_told x1 x2 from to bulge (y ∷ ys) (c ∷ cs) e =
+tie_known x1 x2 from to bulge [] cs e = refl
+tie_known x1 x2 from to bulge (y ∷ ys) [] e = refl
+tie_known x1 x2 from to bulge (y ∷ ys) (c ∷ cs) e =
     joined (record c { notes = c.notes ++ []; ties = c.ties ++ tie_at y (PageMark.Arc x1 x2 from to bulge) })
     (if int_eq x2 y then with_tie_at (to -ℤ bulge) c else c)
     (with_page_mark (PageMark.Arc x1 x2 from to bulge) ys cs) (at_place x2 (with_tie_at (to -ℤ bulge)) ys cs)
-    (tie_one c (int_eq x2 y) (bulges_as_tie bulge) (to -ℤ bulge) e) (tie_told x1 x2 from to bulge ys cs e)
+    (tie_one c (int_eq x2 y) (bulges_as_tie bulge) (to -ℤ bulge) e) (tie_known x1 x2 from to bulge ys cs e)
 
 pub tie_passed : (x1 x2 from to bulge at end passed : ℤ) (ys : List ℤ) (cs new : List HeardColumn)
     → bulges_as_tie bulge ≡ true → at ≡ x2 → passed ≡ end → end ≡ to -ℤ bulge
@@ -135,7 +135,7 @@ tie_passed x1 x2 from to bulge at end passed ys cs new tie e f h is =
     is
     ∙ ap (λ z. at_place z (with_tie_at passed) ys cs) e
     ∙ ap (λ z. at_place x2 (with_tie_at z) ys cs) (f ∙ h)
-    ∙ sym (tie_told x1 x2 from to bulge ys cs tie)
+    ∙ sym (tie_known x1 x2 from to bulge ys cs tie)
 
 -- a mark that means nothing
 quiet_one : (c : HeardColumn) (ns : List HeardGlyph) (ts : List ℤ)
@@ -145,34 +145,34 @@ quiet_one c ns ts e f =
     ∙ ap (λ t. record { leads = c.leads; notes = c.notes ++ []; ties = c.ties ++ t }) f
     ∙ nothing_one c
 
-quiet_told : (m : PageMark) (ys : List ℤ) (cs : List HeardColumn)
+quiet_known : (m : PageMark) (ys : List ℤ) (cs : List HeardColumn)
     → ((y : ℤ) → glyphs_at y m ≡ []) → ((y : ℤ) → tie_at y m ≡ []) → with_page_mark m ys cs ≡ cs
-quiet_told m [] cs e f = refl
-quiet_told m (y ∷ ys) [] e f = refl
-quiet_told m (y ∷ ys) (c ∷ cs) e f =
+quiet_known m [] cs e f = refl
+quiet_known m (y ∷ ys) [] e f = refl
+quiet_known m (y ∷ ys) (c ∷ cs) e f =
     joined (record c { notes = c.notes ++ glyphs_at y m; ties = c.ties ++ tie_at y m }) c (with_page_mark m ys cs) cs
-    (quiet_one c (glyphs_at y m) (tie_at y m) (e y) (f y)) (quiet_told m ys cs e f)
+    (quiet_one c (glyphs_at y m) (tie_at y m) (e y) (f y)) (quiet_known m ys cs e f)
 
-pub words_told : (size : Size) (x dx dy : ℤ) (text : List ℕ) (ys : List ℤ) (cs : List HeardColumn)
+pub words_known : (size : Size) (x dx dy : ℤ) (text : List ℕ) (ys : List ℤ) (cs : List HeardColumn)
     → with_page_mark (PageMark.Words size x dx dy text) ys cs ≡ cs
-words_told size x dx dy text ys cs = quiet_told (PageMark.Words size x dx dy text) ys cs (λ y. refl) (λ y. refl)
+words_known size x dx dy text ys cs = quiet_known (PageMark.Words size x dx dy text) ys cs (λ y. refl) (λ y. refl)
 
-pub stem_told : (x dx from to : ℤ) (ys : List ℤ) (cs : List HeardColumn)
+pub stem_known : (x dx from to : ℤ) (ys : List ℤ) (cs : List HeardColumn)
     → with_page_mark (PageMark.Stem x dx from to) ys cs ≡ cs
-stem_told x dx from to ys cs = quiet_told (PageMark.Stem x dx from to) ys cs (λ y. refl) (λ y. refl)
+stem_known x dx from to ys cs = quiet_known (PageMark.Stem x dx from to) ys cs (λ y. refl) (λ y. refl)
 
-pub beam_told : (way : Way) (x1 x2 from to : ℤ) (ys : List ℤ) (cs : List HeardColumn)
+pub beam_known : (way : Way) (x1 x2 from to : ℤ) (ys : List ℤ) (cs : List HeardColumn)
     → with_page_mark (PageMark.Beam way x1 x2 from to) ys cs ≡ cs
-beam_told way x1 x2 from to ys cs = quiet_told (PageMark.Beam way x1 x2 from to) ys cs (λ y. refl) (λ y. refl)
+beam_known way x1 x2 from to ys cs = quiet_known (PageMark.Beam way x1 x2 from to) ys cs (λ y. refl) (λ y. refl)
 
 no_tie : (b t : Bool) (dy : ℤ) → t ≡ false → (if b && t then dy ∷ [] else []) ≡ []
 no_tie true t dy e = ap (λ u. if u then dy ∷ [] else []) e
 no_tie false t dy e = refl
 
-pub slur_told : (x1 x2 from to bulge : ℤ) (ys : List ℤ) (cs : List HeardColumn)
+pub slur_known : (x1 x2 from to bulge : ℤ) (ys : List ℤ) (cs : List HeardColumn)
     → bulges_as_tie bulge ≡ false → with_page_mark (PageMark.Arc x1 x2 from to bulge) ys cs ≡ cs
-slur_told x1 x2 from to bulge ys cs e =
-    quiet_told (PageMark.Arc x1 x2 from to bulge) ys cs (λ y. refl)
+slur_known x1 x2 from to bulge ys cs e =
+    quiet_known (PageMark.Arc x1 x2 from to bulge) ys cs (λ y. refl)
     (λ y. no_tie (int_eq x2 y) (bulges_as_tie bulge) (to -ℤ bulge) e)
 
 -- ---- mark by mark
@@ -212,12 +212,12 @@ mark_more leads ms m (y ∷ ys) =
     (with_page_mark m ys (heard_columns_from false ms ys)) (heard_columns_from false (ms ++ m ∷ []) ys)
     (column_more leads ms m y) (mark_more false ms m ys)
 
-filled_behind : (leads : Bool) (done ms : List PageMark) (ys : List ℤ)
+filled_after : (leads : Bool) (done ms : List PageMark) (ys : List ℤ)
     → with_marks ms ys (heard_columns_from leads done ys) ≡ heard_columns_from leads (done ++ ms) ys
-filled_behind leads done [] ys = ap (λ t. heard_columns_from leads t ys) (sym (append-nil done))
-filled_behind leads done (m ∷ ms) ys =
+filled_after leads done [] ys = ap (λ t. heard_columns_from leads t ys) (sym (append-nil done))
+filled_after leads done (m ∷ ms) ys =
     ap (with_marks ms ys) (mark_more leads done m ys)
-    ∙ filled_behind leads (done ++ m ∷ []) ms ys
+    ∙ filled_after leads (done ++ m ∷ []) ms ys
     ∙ ap (λ t. heard_columns_from leads t ys) (append_assoc done (m ∷ []) ms)
 
 -- one step of the loop that makes empty columns
@@ -244,4 +244,4 @@ marks_more ys ms i m cols new target inside here is before =
 -- all marks
 pub filled : (leads : Bool) (ms : List PageMark) (ys : List ℤ)
     → with_marks ms ys (heard_columns_from leads [] ys) ≡ heard_columns_from leads ms ys
-filled leads ms ys = filled_behind leads [] ms ys
+filled leads ms ys = filled_after leads [] ms ys

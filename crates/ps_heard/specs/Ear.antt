@@ -5,7 +5,7 @@ use Rattle.mus_units.specs.declared.{key.Spread.Spread, pitch.Clef.Clef}
 use Rattle.ps_heard.specs.declared.column.HeardColumn.{HeardColumn}
 use Rattle.ps_heard.specs.declared.column.Listener.{Listener}
 use Rattle.ps_heard.specs.declared.column.HeardGlyph.{HeardGlyph}
-use Rattle.ps_heard.specs.Hearing.{clef_behind, entries, gives_key, head_of_glyph, heard_of_glyph, last_or}
+use Rattle.ps_heard.specs.Hearing.{clef_after, entries, gives_key, head_of_glyph, heard_of_glyph, last_or}
 use Rattle.ps_heard.specs.Hearing.{heard_if_note, said_with}
 
 -- a mark: a bar ends the measure; a head counts for its measure, and is listed unless it is a grace note's
@@ -22,9 +22,9 @@ hear_from spread col ear (n ∷ ns) = hear_from spread col (hear_one spread col 
 -- the clef and the key of a column
 abbrev pub column_opened : Listener → HeardColumn → Listener
 column_opened ear col = record ear {
-  clef = clef_behind ear.clef col.notes;
+  clef = clef_after ear.clef col.notes;
   key = record {
-    signs = if gives_key col.leads col.notes then entries (clef_behind ear.clef col.notes) col.notes else ear.key.signs;
+    signs = if gives_key col.leads col.notes then entries (clef_after ear.clef col.notes) col.notes else ear.key.signs;
   };
 }
 

@@ -30,13 +30,13 @@ abbrev pub clef_or : Clef → Role → Clef
 clef_or c (Role.Clef new) = new
 clef_or c _ = c
 
-abbrev pub clef_behind : Clef → List HeardGlyph → Clef
-clef_behind c [] = c
-clef_behind c (n ∷ ns) = clef_behind (clef_or c n.role) ns
+abbrev pub clef_after : Clef → List HeardGlyph → Clef
+clef_after c [] = c
+clef_after c (n ∷ ns) = clef_after (clef_or c n.role) ns
 
 abbrev pub clef_heard : List HeardColumn → Clef
 clef_heard [] = Clef.Treble
-clef_heard (col ∷ earlier) = clef_behind (clef_heard earlier) col.notes
+clef_heard (col ∷ earlier) = clef_after (clef_heard earlier) col.notes
 
 -- accidentals as entries of a key, by height and clef; the first for a letter counts, as in each key
 abbrev pub entry : Clef → ℤ → Role → List Sign

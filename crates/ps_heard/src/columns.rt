@@ -68,8 +68,8 @@ fn put_tie(columns: &mut Row<HeardColumn>, places: &[i64], x: i64, dy: i64) -> R
 }
 
 /// Adds what a mark means.
-#[tactic(auto, using(crate::proofs::FillingLaws::slur_told, crate::proofs::FillingLaws::words_told, //
-crate::proofs::FillingLaws::stem_told, crate::proofs::FillingLaws::beam_told))]
+#[tactic(auto, using(crate::proofs::FillingLaws::slur_known, crate::proofs::FillingLaws::words_known, //
+crate::proofs::FillingLaws::stem_known, crate::proofs::FillingLaws::beam_known))]
 fn put_mark(columns: &mut Row<HeardColumn>, places: &[i64], mark: &PageMark) -> Result<(), Memory>
     requires rise { IsStrictlySortedBy int_cmp places.now }
     requires all { length columns.old ≡ length places.now }

@@ -6,7 +6,7 @@ ghost use Rattle.ps_heard.specs.Ear.{fresh};
 
 use crate::column::{Heard, HeardColumn, HeardGlyph, Listener, Role};
 use crate::heads::{head_of_glyph, heard_of_glyph};
-use crate::keys::{clef_behind, entries, gives_key};
+use crate::keys::{clef_after, entries, gives_key};
 use mus_units::{Clef, Key, Memory, Row, Spread};
 use std::alloc::Global;
 
@@ -57,7 +57,7 @@ fn open_column(alloc: Global, ear: &mut Listener, col: &HeardColumn) -> Result<(
     ensures { OnOk result (ear.new ≡ column_opened ear.old col.now) }
 {
     let notes = col.notes.as_slice();
-    ear.clef = clef_behind(ear.clef, notes);
+    ear.clef = clef_after(ear.clef, notes);
     if gives_key(col.leads, notes) {
         ear.key = Key {
             signs: entries(alloc, ear.clef, notes)?,

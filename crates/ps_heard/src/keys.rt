@@ -1,7 +1,7 @@
 //! The clef and the key of a column.
 
 ghost use Rattle.std.specs.{Prelude.◌≡◌, Prelude.IfOk, List.list_any};
-ghost use Rattle.ps_heard.specs.Hearing.{clef_or, clef_behind, entries, is_sign, is_head, gives_key};
+ghost use Rattle.ps_heard.specs.Hearing.{clef_or, clef_after, entries, is_sign, is_head, gives_key};
 
 use crate::column::{HeardGlyph, Role};
 use crate::pitches::pitch_at;
@@ -18,8 +18,8 @@ fn clef_or(clef: Clef, role: Role) -> Clef
 }
 
 /// Returns the last clef among these glyphs, or else the one before.
-pub fn clef_behind(clef: Clef, notes: &[HeardGlyph]) -> Clef
-    ensures { result ≡ clef_behind clef notes.now }
+pub fn clef_after(clef: Clef, notes: &[HeardGlyph]) -> Clef
+    ensures { result ≡ clef_after clef notes.now }
 {
     let mut last = clef;
     for note in notes {

@@ -7,7 +7,7 @@ use Rattle.ps_text.specs.Prolog.{procedures, glyph_lines, last_text}
 use Rattle.ps_text.specs.declared.sheet.Frame.{Frame}
 use Rattle.ps_text.specs.declared.sheet.Sheet.{Sheet}
 use Rattle.ps_read.specs.Laws.{NoPrefix}
-use Rattle.ps_read.specs.Lines.{Line, line_text, lines_then, behind_line, IsFirstLine}
+use Rattle.ps_read.specs.Lines.{Line, line_text, lines_then, after_line, IsFirstLine}
 use Rattle.ps_read.specs.ReaderStates.{MayCome, after_prolog, state_after, Leads}
 use Rattle.ps_read.specs.declared.state.ReaderState.{ReaderState}
 use Rattle.ps_read.proofs.Heads.{may_lack, IsMarkStart, mark_start, join_start, rules_start, title_start, no_line}
@@ -36,26 +36,26 @@ stage p = late
 abbrev last_line : List ℕ
 last_line = codes "%%EOF"
 
-abbrev behind_prolog : List ℕ → Stage
-behind_prolog [] = late
-behind_prolog (b ∷ rest) = framed (b ∷ rest)
+abbrev past_prolog : List ℕ → Stage
+past_prolog [] = late
+past_prolog (b ∷ rest) = framed (b ∷ rest)
 
 -- the stage after a line, by its text alone
 abbrev on : Stage → List ℕ → Stage
 on begun text = titled
 on titled text = boxed procedures
 on (boxed []) text = framed (glyph_lines glyphs_in_order ++ last_text)
-on (boxed (b ∷ rest)) text = boxed (behind_line text (b ∷ rest))
-on (framed rest) text = behind_prolog (behind_line text rest)
+on (boxed (b ∷ rest)) text = boxed (after_line text (b ∷ rest))
+on (framed rest) text = past_prolog (after_line text rest)
 on late text = if head_of text == 37 then (if same_start 5 text last_line then over else late) else late
 on over text = over
 
-after_framed : (f : Frame) (rest : List ℕ) → stage (after_prolog f rest) ≡ behind_prolog rest
+after_framed : (f : Frame) (rest : List ℕ) → stage (after_prolog f rest) ≡ past_prolog rest
 after_framed f [] = refl
 after_framed f (b ∷ rest) = refl
 
-in_box : (rest text : List ℕ) → IsFirstLine text rest → boxed (behind_line text rest) ≡ on (boxed rest) text
-in_box [] text m = absurd (no_line text (behind_line text []) m.first)
+in_box : (rest text : List ℕ) → IsFirstLine text rest → boxed (after_line text rest) ≡ on (boxed rest) text
+in_box [] text m = absurd (no_line text (after_line text []) m.first)
 in_box (b ∷ rest) text m = refl
 
 mark_late : (text : List ℕ) → IsMarkStart (head_of text) → late ≡ on late text
@@ -67,7 +67,7 @@ stage_on : (p : ReaderState) (l : Line) → MayCome p l → stage (state_after p
 unfolding heading_line count_line tune_line system_line staff_line
 stage_on (ReaderState.Boxed w h rest) (line.Fixed text) m = in_box rest text m
 stage_on (ReaderState.Boxed w h rest) (line.PageStart l b s) m = rw m.0 refl
-stage_on (ReaderState.Framed f rest) (line.Fixed text) m = after_framed f (behind_line text rest)
+stage_on (ReaderState.Framed f rest) (line.Fixed text) m = after_framed f (after_line text rest)
 stage_on (ReaderState.Items p) (line.Title x y size words) m =
     mark_late (line_text (line.Title x y size words)) (title_start x y size words)
 stage_on (ReaderState.System o) (line.Join x y) m = mark_late (line_text (line.Join x y)) (join_start x y)

@@ -19,7 +19,7 @@ use Rattle.ps_text.specs.declared.sheet.Staff.{Staff}
 use Rattle.ps_text.specs.declared.sheet.Sheet.{Sheet}
 use Rattle.ps_text.specs.declared.sheet.Item.{Item}
 use Rattle.ps_text.specs.declared.prolog.TheConstants.{BOX}
-use Rattle.ps_read.specs.Lines.{Line, line_text, behind_line, IsFirstLine}
+use Rattle.ps_read.specs.Lines.{Line, line_text, after_line, IsFirstLine}
 use Rattle.ps_read.specs.ReaderStates.{frame_from_numbers, with_item, with_page, staff_with_mark, system_with_staff}
 use Rattle.ps_read.specs.ReaderStates.{with_join, IsUnderTop, MayCome, after_prolog, state_after}
 use Rattle.ps_read.specs.Steps.{NoneOf, IsNextOf, IsStepOf, Any, IsItemLine, IsSystemLine, IsJoinLine, IsNoMark}
@@ -69,13 +69,13 @@ none_titled raw f (line.Box a b) u q k = f a b k.0 k.1 q
 none_titled raw f m u q k = absurd k
 
 pub on_boxed : (w h : ℕ) (rest raw more : List ℕ)
-    → IsFirstLine raw rest → more ≡ behind_line raw rest
+    → IsFirstLine raw rest → more ≡ after_line raw rest
     → IsNextOf Any (ReaderState.Boxed w h rest) raw (ReaderState.Boxed w h more)
 on_boxed w h rest raw more e is =
     record { line = line.Fixed raw; asked = tt; spelled = refl; may = e; only = λ m u q k. grind (arith, no_line) }
 
 pub on_framed : (f : Frame) (rest raw : List ℕ) (q : ReaderState)
-    → IsFirstLine raw rest → q ≡ after_prolog f (behind_line raw rest) → IsNextOf Any (ReaderState.Framed f rest) raw q
+    → IsFirstLine raw rest → q ≡ after_prolog f (after_line raw rest) → IsNextOf Any (ReaderState.Framed f rest) raw q
 on_framed f rest raw p e is =
     record { line = line.Fixed raw; asked = tt; spelled = refl; may = e; only = λ m u q k. grind arith }
 

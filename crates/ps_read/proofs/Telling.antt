@@ -23,7 +23,7 @@ use Rattle.ps_text.specs.declared.sheet.Page.{Page}
 use Rattle.ps_text.specs.declared.sheet.Sheet.{Sheet}
 use Rattle.ps_read.specs.Answers.{IsGoodThroughout}
 use Rattle.ps_read.specs.Steps.{IsItemLine}
-use Rattle.ps_read.specs.Lines.{Line, line_text, lines_then, behind_line}
+use Rattle.ps_read.specs.Lines.{Line, line_text, lines_then, after_line}
 use Rattle.ps_read.specs.ReaderStates.{frame_from_numbers, with_item, staff_with_mark, system_with_staff, system_ended}
 use Rattle.ps_read.specs.ReaderStates.{IsUnderTop, MayEnd, MayCome, after_prolog, state_after, Leads}
 use Rattle.ps_read.specs.declared.state.Joined.{Joined}
@@ -33,18 +33,19 @@ use Rattle.ps_read.specs.declared.state.ReaderState.{ReaderState}
 use Rattle.ps_read.specs.Lines as line
 
 -- the text of whole pages, of a page whose items are being read, and of a system whose staves are being read
-abbrev pub front : Sheet → List ℕ
-front s = prolog s.frame ++ numbered document_page 1 s.pages
+abbrev pub prefix : Sheet → List ℕ
+prefix s = prolog s.frame ++ numbered document_page 1 s.pages
 
-abbrev page_front : OpenPage → List ℕ
-page_front p = front p.sheet ++ (heading_text (length p.sheet.pages + 1) ++ items_text p.items)
+abbrev page_prefix : OpenPage → List ℕ
+page_prefix p = prefix p.sheet ++ (heading_text (length p.sheet.pages + 1) ++ items_text p.items)
 
 abbrev joining : Option Joined → List ℕ
 joining None = []
 joining (Some j) = join_line j.top j.foot ++ 10 ∷ []
 
-abbrev system_front : OpenSystem → List ℕ
-system_front o = page_front o.page ++ (system_line o.a o.b ++ (10 ∷ (joining o.join ++ numbered staff_text 0 o.staves)))
+abbrev system_prefix : OpenSystem → List ℕ
+system_prefix o =
+    page_prefix o.page ++ (system_line o.a o.b ++ (10 ∷ (joining o.join ++ numbered staff_text 0 o.staves)))
 
 -- any item may follow these
 abbrev IsOpenTo : List Item → Type 0
@@ -83,17 +84,17 @@ Tells ReaderState.Begun t = t ≡ []
 Tells ReaderState.Titled t = t ≡ first_text
 Tells (ReaderState.Boxed w h rest) t = t ++ rest ≡ (first_text ++ (box_line w h ++ 10 ∷ [])) ++ procedures
 Tells (ReaderState.Framed f rest) t = (t ++ rest ≡ prolog f) × IsFrame f
-Tells (ReaderState.Between s) t = (t ≡ front s) × IsSheet s
+Tells (ReaderState.Between s) t = (t ≡ prefix s) × IsSheet s
 Tells (ReaderState.Headed s) t =
-    (t ≡ front s ++ (heading_line (length s.pages + 1) ++ 10 ∷ [])) × IsSheet s × (length s.pages + 1 < 2 ^ 32)
-Tells (ReaderState.Items p) t = (t ≡ page_front p) × IsOpenPage p × IsOpenTo p.items
-Tells (ReaderState.System o) t = (t ≡ system_front o) × IsOpenSystem o × (o.staves ≡ [])
-Tells (ReaderState.Staff o) t = (t ≡ system_front o ++ (staff_line (length o.staves) ++ 10 ∷ [])) × IsOpenSystem o
-Tells (ReaderState.Marks o s) t = (t ≡ system_front (system_with_staff o s)) × IsOpenStaff o s
-Tells (ReaderState.Closed p) t = (t ≡ page_front p ++ codes "grestore\n") × IsOpenPage p
-Tells (ReaderState.Trailer s) t = (t ≡ front s ++ codes "%%Trailer\n") × IsSheet s
+    (t ≡ prefix s ++ (heading_line (length s.pages + 1) ++ 10 ∷ [])) × IsSheet s × (length s.pages + 1 < 2 ^ 32)
+Tells (ReaderState.Items p) t = (t ≡ page_prefix p) × IsOpenPage p × IsOpenTo p.items
+Tells (ReaderState.System o) t = (t ≡ system_prefix o) × IsOpenSystem o × (o.staves ≡ [])
+Tells (ReaderState.Staff o) t = (t ≡ system_prefix o ++ (staff_line (length o.staves) ++ 10 ∷ [])) × IsOpenSystem o
+Tells (ReaderState.Marks o s) t = (t ≡ system_prefix (system_with_staff o s)) × IsOpenStaff o s
+Tells (ReaderState.Closed p) t = (t ≡ page_prefix p ++ codes "grestore\n") × IsOpenPage p
+Tells (ReaderState.Trailer s) t = (t ≡ prefix s ++ codes "%%Trailer\n") × IsSheet s
 Tells (ReaderState.Counted s) t =
-    (t ≡ front s ++ (codes "%%Trailer\n" ++ (count_line (length s.pages) ++ 10 ∷ []))) × IsSheet s
+    (t ≡ prefix s ++ (codes "%%Trailer\n" ++ (count_line (length s.pages) ++ 10 ∷ []))) × IsSheet s
 Tells (ReaderState.Ended s) t = SpellsSheet s t
 
 -- one more at the end
@@ -108,12 +109,12 @@ marks_push : (k : ℕ) (s : Staff) (m : PageMark) → staff_text k (staff_with_m
 unfolding staff_text marks_text
 marks_push k s m = simp (flat_map-append (mark_text s.y) s.marks, append-nil, append_assoc)
 
-page_more : (p : OpenPage) (i : Item) → page_front (with_item p i) ≡ page_front p ++ item_text i
+page_more : (p : OpenPage) (i : Item) → page_prefix (with_item p i) ≡ page_prefix p ++ item_text i
 unfolding items_text
 page_more p i = simp (flat_map-append item_text p.items, append-nil, append_assoc)
 
 system_more : (o : OpenSystem) (s : Staff)
-    → system_front (system_with_staff o s) ≡ system_front o ++ staff_text (length o.staves) s
+    → system_prefix (system_with_staff o s) ≡ system_prefix o ++ staff_text (length o.staves) s
 system_more o s = rw (numbered_push staff_text 0 (length o.staves) o.staves s (omega arith)) (simp append_assoc)
 
 last_base_push : (t : Staff) (ss : List Staff) (s : Staff) → last_base t (ss ++ s ∷ []) ≡ s.y
@@ -132,13 +133,13 @@ joins (Some j) (t ∷ u ∷ ss) s h m =
 
 ended_text : (o : OpenSystem) (s : Staff)
     → IsJoinedBy o.join o.staves → MayEnd o.join o.staves s.y
-    → page_front (system_ended o s) ≡ system_front (system_with_staff o s)
+    → page_prefix (system_ended o s) ≡ system_prefix (system_with_staff o s)
 unfolding system_text
 ended_text o s h m =
     let ss = o.staves ++ s ∷ [] in
     let l = system_line o.a o.b in
     let n = numbered staff_text 0 ss in
-    page_more o.page (Item.System o.a o.b ss) ∙ ap (λ v. page_front o.page ++ v)
+    page_more o.page (Item.System o.a o.b ss) ∙ ap (λ v. page_prefix o.page ++ v)
     (ap (λ j. (l ++ 10 ∷ j) ++ n) (joins o.join o.staves s h m) ∙ append_assoc l (10 ∷ joining o.join) n)
 
 joined_more : (j : Option Joined) (ss : List Staff) (s : Staff)
@@ -188,35 +189,35 @@ prolog_ends f [] t e h = (
 )
 prolog_ends f (b ∷ rest) t e h = (e, h)
 
-pub first_told : codes "%!PS-Adobe-3.0" ++ 10 ∷ [] ≡ first_text
+pub first_reported : codes "%!PS-Adobe-3.0" ++ 10 ∷ [] ≡ first_text
 unfolding first_text
-first_told = refl
+first_reported = refl
 
-scale_told : (w h l b s : ℕ) (t : List ℕ)
+scale_reported : (w h l b s : ℕ) (t : List ℕ)
     → t ≡ (first_text ++ (box_line w h ++ 10 ∷ [])) ++ procedures
     → (t ++ (page_line l b s ++ 10 ∷ [])) ++ (glyph_lines glyphs_in_order ++ last_text)
     ≡ prolog (frame_from_numbers w h l b s)
 unfolding prolog heading
-scale_told w h l b s t e = rw e (simp append_assoc)
+scale_reported w h l b s t e = rw e (simp append_assoc)
 
-rules_told : (o : OpenSystem) (w : ℕ) (y : ℤ) (t : List ℕ)
-    → t ≡ system_front o ++ (staff_line (length o.staves) ++ 10 ∷ [])
-    → t ++ (rules_line w y ++ 10 ∷ []) ≡ system_front (system_with_staff o (record { y = y; width = w; marks = [] }))
+rules_reported : (o : OpenSystem) (w : ℕ) (y : ℤ) (t : List ℕ)
+    → t ≡ system_prefix o ++ (staff_line (length o.staves) ++ 10 ∷ [])
+    → t ++ (rules_line w y ++ 10 ∷ []) ≡ system_prefix (system_with_staff o (record { y = y; width = w; marks = [] }))
 unfolding staff_text marks_text
-rules_told o w y t h =
+rules_reported o w y t h =
     let s : Staff = record { y = y; width = w; marks = [] } in
-    let e : t ++ (rules_line w y ++ 10 ∷ []) ≡ system_front o ++ staff_text (length o.staves) s =
+    let e : t ++ (rules_line w y ++ 10 ∷ []) ≡ system_prefix o ++ staff_text (length o.staves) s =
     rw h (simp append_assoc) in
     e ∙ sym (system_more o s)
 
-mark_told : (o : OpenSystem) (s : Staff) (m : PageMark) (t : List ℕ)
-    → t ≡ system_front (system_with_staff o s)
-    → t ++ (mark_line s.y m ++ 10 ∷ []) ≡ system_front (system_with_staff o (staff_with_mark s m))
+mark_reported : (o : OpenSystem) (s : Staff) (m : PageMark) (t : List ℕ)
+    → t ≡ system_prefix (system_with_staff o s)
+    → t ++ (mark_line s.y m ++ 10 ∷ []) ≡ system_prefix (system_with_staff o (staff_with_mark s m))
 unfolding mark_text
-mark_told o s m t h =
+mark_reported o s m t h =
     ap (λ t. t ++ (mark_line s.y m ++ 10 ∷ [])) (h ∙ system_more o s)
-    ∙ (append_assoc (system_front o) (staff_text (length o.staves) s) (mark_line s.y m ++ 10 ∷ [])
-    ∙ (ap (λ v. system_front o ++ v) (sym (marks_push (length o.staves) s m))
+    ∙ (append_assoc (system_prefix o) (staff_text (length o.staves) s) (mark_line s.y m ++ 10 ∷ [])
+    ∙ (ap (λ v. system_prefix o ++ v) (sym (marks_push (length o.staves) s m))
     ∙ sym (system_more o (staff_with_mark s m))))
 
 joined_staff : (j : Option Joined) (ss : List Staff) (s : Staff)
@@ -236,7 +237,7 @@ staff_good o s h some = record {
 
 -- a line that may come after a system as well as after a title
 item_tells : (p : OpenPage) (l : Line) (t : List ℕ)
-    → IsItemLine l → MayCome (ReaderState.Items p) l → t ≡ page_front p → IsOpenPage p
+    → IsItemLine l → MayCome (ReaderState.Items p) l → t ≡ page_prefix p → IsOpenPage p
     → Tells (state_after (ReaderState.Items p) l) (t ++ (line_text l ++ 10 ∷ []))
 unfolding tune_text
 item_tells p (line.Tune k) t i m e h = (
@@ -252,15 +253,15 @@ item_tells p l t i m e h = absurd i
 step_tells : (p : ReaderState) (l : Line) (t : List ℕ)
     → MayCome p l → Tells p t → Tells (state_after p l) (t ++ (line_text l ++ 10 ∷ []))
 unfolding title_text heading_text items_text document_page closing document trailer
-step_tells ReaderState.Begun (line.Fixed text) t m h = rw (h, m) first_told
+step_tells ReaderState.Begun (line.Fixed text) t m h = rw (h, m) first_reported
 step_tells ReaderState.Titled (line.Box w k) t m h = rw h refl
 step_tells (ReaderState.Boxed w k rest) (line.Fixed text) t m h =
-    line_taken t text rest (behind_line text rest) _ m.first h
+    line_taken t text rest (after_line text rest) _ m.first h
 step_tells (ReaderState.Boxed w k rest) (line.PageStart l b s) t m h =
-    (scale_told w k l b s t (sym (append-nil t) ∙ (ap (λ r. t ++ r) (sym m.0) ∙ h)), m.1)
+    (scale_reported w k l b s t (sym (append-nil t) ∙ (ap (λ r. t ++ r) (sym m.0) ∙ h)), m.1)
 step_tells (ReaderState.Framed f rest) (line.Fixed text) t m h =
-    prolog_ends f (behind_line text rest) (t ++ (text ++ 10 ∷ []))
-    (line_taken t text rest (behind_line text rest) (prolog f) m.first h.0) h.1
+    prolog_ends f (after_line text rest) (t ++ (text ++ 10 ∷ []))
+    (line_taken t text rest (after_line text rest) (prolog f) m.first h.0) h.1
 step_tells (ReaderState.Between s) (line.Heading k) t m h =
     (rw (h.0, m.0) refl, h.1, let e = m.0 in let l = m.1 in omega (arith, e, l))
 step_tells (ReaderState.Between s) (line.Fixed text) t m h = (rw (h.0, m) refl, h.1)
@@ -291,7 +292,7 @@ step_tells (ReaderState.System o) (line.Join top foot) t m h = (
 )
 step_tells (ReaderState.System o) (line.StaffHead k) t m h = (rw (h.0, m, h.2) refl, h.1)
 step_tells (ReaderState.Staff o) (line.Rules w y) t m h = (
-  rules_told o w y t h.0,
+  rules_reported o w y t h.0,
   record {
     system = h.1;
     staff = record { base = m.2; some = m.0; wide = m.1; drawn = All-nil (IsPageMark y) };
@@ -299,7 +300,7 @@ step_tells (ReaderState.Staff o) (line.Rules w y) t m h = (
   },
 )
 step_tells (ReaderState.Marks o s) (line.Mark y k) t m h = (
-  rw m.0 (mark_told o s k t h.0),
+  rw m.0 (mark_reported o s k t h.0),
   record {
     system = h.1.system;
     staff = record {
@@ -333,7 +334,7 @@ step_tells (ReaderState.Closed p) (line.Fixed text) t m h =
       },
     )
 step_tells (ReaderState.Trailer s) (line.Fixed text) t m h =
-    (rw (h.0, m) (append_assoc (front s) (codes "%%Trailer\n") (count_line (length s.pages) ++ 10 ∷ [])), h.1)
+    (rw (h.0, m) (append_assoc (prefix s) (codes "%%Trailer\n") (count_line (length s.pages) ++ 10 ∷ [])), h.1)
 step_tells (ReaderState.Counted s) (line.Fixed text) t m h =
     record { good = h.1; spelled = rw (h.0, m) (simp append_assoc) }
 step_tells p l t m h = absurd m
@@ -351,5 +352,5 @@ leads_tell p q (l ∷ ls) t h k =
 -- good lines up to the end spell a document
 pub lines_spell : (s : Sheet) (text : List ℕ) → IsGoodThroughout text s → SpellsSheet s text
 lines_spell s text h =
-    let told = leads_tell ReaderState.Begun (ReaderState.Ended s) h.0 [] h.2 refl in
-    record { good = told.good; spelled = told.spelled ∙ sym h.1 }
+    let reported = leads_tell ReaderState.Begun (ReaderState.Ended s) h.0 [] h.2 refl in
+    record { good = reported.good; spelled = reported.spelled ∙ sym h.1 }

@@ -27,7 +27,7 @@ use Rattle.ps_read.specs.declared.state.Joined.{Joined}
 use Rattle.ps_read.specs.declared.state.OpenPage.{OpenPage}
 use Rattle.ps_read.specs.declared.state.OpenSystem.{OpenSystem}
 use Rattle.ps_read.specs.declared.state.ReaderState.{ReaderState}
-use Rattle.ps_read.proofs.Telling.{first_told}
+use Rattle.ps_read.proofs.Telling.{first_reported}
 use Rattle.ps_read.specs.Lines as line
 
 -- good lines lead from one state to another, and this is their text
@@ -100,10 +100,10 @@ lined (x ∷ y ∷ xs) e = at (x == 10) refl (lined (y ∷ xs) e)
     at true is h = ([] ∷ h.0, ap (λ x. x ∷ y ∷ xs) (eqb-true x 10 is) ∙ ap (λ t. 10 ∷ t) h.1, (tt, h.2))
     at false is h = begun_line x (y ∷ xs) (λ q. true≢false (sym (eq-eqb x 10 q) ∙ is)) h.0 h.1 h.2 (λ n. omega arith)
 
-ends_behind : (s : List ℕ) (y : ℕ) (t : List ℕ) → ends_line (y ∷ t) ≡ true → ends_line (s ++ (y ∷ t)) ≡ true
-ends_behind [] y t e = e
-ends_behind (x ∷ []) y t e = e
-ends_behind (x ∷ z ∷ s) y t e = ends_behind (z ∷ s) y t e
+ends_after : (s : List ℕ) (y : ℕ) (t : List ℕ) → ends_line (y ∷ t) ≡ true → ends_line (s ++ (y ∷ t)) ≡ true
+ends_after [] y t e = e
+ends_after (x ∷ []) y t e = e
+ends_after (x ∷ z ∷ s) y t e = ends_after (z ∷ s) y t e
 
 drop_line : (t r : List ℕ) → drop (length t + 1) (t ++ 10 ∷ r) ≡ r
 drop_line [] r = refl
@@ -152,7 +152,7 @@ procedures_lined = refl
 
 last_lined : (s : List ℕ) → ends_line (s ++ last_text) ≡ true
 unfolding last_text
-last_lined s = ends_behind s _ _ refl
+last_lined s = ends_after s _ _ refl
 
 last_left : (f : Frame) (s : List ℕ) → ReaderState.Framed f (s ++ last_text) ≡ after_prolog f (s ++ last_text)
 unfolding last_text
@@ -164,7 +164,8 @@ prolog_way : (f : Frame)
 unfolding prolog heading
 prolog_way f h =
     let w = f.wide in let k = f.high in let r = glyph_lines glyphs_in_order in
-    way_as (way_both (way_as (way_line ReaderState.Begun (line.Fixed (codes "%!PS-Adobe-3.0")) refl) refl first_told)
+    way_as (way_both
+    (way_as (way_line ReaderState.Begun (line.Fixed (codes "%!PS-Adobe-3.0")) refl) refl first_reported)
     (way_both (way_line ReaderState.Titled (line.Box w k) (h.wide, h.high))
     (way_both (fixed_way (ReaderState.Boxed w k) (in_box w k) procedures procedures_lined)
     (way_both

@@ -40,27 +40,27 @@ pub record IsReading (text : List ℕ) (p : ReaderState) (rest : List ℕ) (numb
   pub ways : WaysOn text (length lines) p rest
 
 -- after one more line
-ways_more : (text : List ℕ) (count : ℕ) (p t : ReaderState) (rest raw behind : List ℕ)
-    → WaysOn text count p rest → rest ≡ raw ++ 10 ∷ behind → Lacks 10 raw → IsNextOf Any p raw t
-    → WaysOn text (count + 1) t behind
-ways_more text count p t rest raw behind ways cut lacks step ms r q e l n =
+ways_more : (text : List ℕ) (count : ℕ) (p t : ReaderState) (rest raw following : List ℕ)
+    → WaysOn text count p rest → rest ≡ raw ++ 10 ∷ following → Lacks 10 raw → IsNextOf Any p raw t
+    → WaysOn text (count + 1) t following
+ways_more text count p t rest raw following ways cut lacks step ms r q e l n =
     let w = ways ms r q e l (omega (arith, n)) in at w.0 w.1 w.2 w.3
   where
     at : (ks : List Line) → rest ≡ lines_then ks r → Leads p ks q → length ms ≡ count + length ks
-        → (js : List Line) × (behind ≡ lines_then js r) × Leads t js q × (length ms ≡ count + 1 + length js)
+        → (js : List Line) × (following ≡ lines_then js r) × Leads t js q × (length ms ≡ count + 1 + length js)
     at [] f h k = absurd (omega (arith, n, k))
     at (j ∷ js) f h k =
-        let c = one_cut 10 raw (line_text j) behind (lines_then js r) lacks (may_lack p j h.0) (sym cut ∙ f) in (
+        let c = one_cut 10 raw (line_text j) following (lines_then js r) lacks (may_lack p j h.0) (sym cut ∙ f) in (
           js,
           c.1,
           subst (λ p. Leads p js q) (step.only j tt c.0 h.0) h.1,
           omega (arith, k),
         )
 
-pub reading_more : (text : List ℕ) (p t : ReaderState) (rest raw behind : List ℕ) (number : ℕ)
+pub reading_more : (text : List ℕ) (p t : ReaderState) (rest raw following : List ℕ) (number : ℕ)
     → IsReading text p rest number
-    → rest ≡ raw ++ 10 ∷ behind → Lacks 10 raw → IsNextOf Any p raw t → IsReading text t behind (number + 1)
-reading_more text p t rest raw behind number h cut lacks step =
+    → rest ≡ raw ++ 10 ∷ following → Lacks 10 raw → IsNextOf Any p raw t → IsReading text t following (number + 1)
+reading_more text p t rest raw following number h cut lacks step =
     let l = step.line in
     let more = h.lines ++ l ∷ [] in
     let k = length-append h.lines (l ∷ []) in
@@ -70,15 +70,15 @@ reading_more text p t rest raw behind number h cut lacks step =
       lines = more;
       so_far =
           h.so_far
-          ∙ (ap (λ r. lines_then h.lines r) (cut ∙ ap (λ r. r ++ 10 ∷ behind) step.spelled)
-          ∙ sym (lines_both h.lines (l ∷ []) behind));
+          ∙ (ap (λ r. lines_then h.lines r) (cut ∙ ap (λ r. r ++ 10 ∷ following) step.spelled)
+          ∙ sym (lines_both h.lines (l ∷ []) following));
       leads =
           subst (λ q. Leads ReaderState.Begun more q) (step.only l tt step.spelled step.may)
           (leads_both ReaderState.Begun h.lines p (l ∷ []) (state_after p l) h.leads (step.may, refl));
       counted = omega (arith, k, n);
       ways =
-          subst (λ c. WaysOn text c t behind) e
-          (ways_more text (length h.lines) p t rest raw behind h.ways cut lacks step);
+          subst (λ c. WaysOn text c t following) e
+          (ways_more text (length h.lines) p t rest raw following h.ways cut lacks step);
     }
 
 -- no good line comes next, and this isn't the end
@@ -86,11 +86,11 @@ pub record IsStuck (p : ReaderState) (rest : List ℕ) : Type 0 where
   pub line : (l : Line) (more : List ℕ) → rest ≡ line_text l ++ 10 ∷ more → MayCome p l → ⊥
   pub last : (s : Sheet) → rest ≡ [] → p ≡ ReaderState.Ended s → ⊥
 
-pub stuck_at_line : (p : ReaderState) (rest raw behind : List ℕ)
-    → rest ≡ raw ++ 10 ∷ behind → Lacks 10 raw → NoneOf Any p raw → IsStuck p rest
-stuck_at_line p rest raw behind cut lacks none = record {
-  line = λ l more e m. none l tt (one_cut 10 raw (line_text l) behind more lacks (may_lack p l m) (sym cut ∙ e)).0 m;
-  last = λ s e is. no_line raw behind (sym e ∙ cut);
+pub stuck_at_line : (p : ReaderState) (rest raw following : List ℕ)
+    → rest ≡ raw ++ 10 ∷ following → Lacks 10 raw → NoneOf Any p raw → IsStuck p rest
+stuck_at_line p rest raw following cut lacks none = record {
+  line = λ l more e m. none l tt (one_cut 10 raw (line_text l) following more lacks (may_lack p l m) (sym cut ∙ e)).0 m;
+  last = λ s e is. no_line raw following (sym e ∙ cut);
 }
 
 pub stuck_at_end : (p : ReaderState) (rest : List ℕ)

@@ -38,10 +38,10 @@ lines_then [] rest = rest
 lines_then (l ∷ ls) rest = line_text l ++ 10 ∷ lines_then ls rest
 
 -- what is left of a text after its first line
-abbrev pub behind_line : List ℕ → List ℕ → List ℕ
-behind_line line text = drop (length line + 1) text
+abbrev pub after_line : List ℕ → List ℕ → List ℕ
+after_line line text = drop (length line + 1) text
 
 -- the line is the first of the text
 pub record IsFirstLine (line text : List ℕ) : Type 0 where
   pub whole : Lacks 10 line
-  pub first : text ≡ line ++ 10 ∷ behind_line line text
+  pub first : text ≡ line ++ 10 ∷ after_line line text

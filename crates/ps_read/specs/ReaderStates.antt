@@ -11,7 +11,7 @@ use Rattle.ps_text.specs.declared.sheet.Item.{Item}
 use Rattle.ps_text.specs.declared.sheet.Sheet.{Sheet}
 use Rattle.glyph_paths.specs.Names.{glyphs_in_order}
 use Rattle.ps_read.specs.Lines.{Line, Fixed, Box, PageStart, Heading, Tune, Title, System, Join, StaffHead, Rules, Mark}
-use Rattle.ps_read.specs.Lines.{behind_line, IsFirstLine}
+use Rattle.ps_read.specs.Lines.{after_line, IsFirstLine}
 use Rattle.ps_read.specs.declared.state.Joined.{Joined}
 use Rattle.ps_read.specs.declared.state.OpenPage.{OpenPage}
 use Rattle.ps_read.specs.declared.state.OpenSystem.{OpenSystem}
@@ -94,10 +94,10 @@ after_prolog frame (b ∷ rest) = ReaderState.Framed frame (b ∷ rest)
 abbrev pub state_after : ReaderState → Line → ReaderState
 state_after ReaderState.Begun (Fixed text) = ReaderState.Titled
 state_after ReaderState.Titled (Box wide high) = ReaderState.Boxed wide high procedures
-state_after (ReaderState.Boxed wide high rest) (Fixed text) = ReaderState.Boxed wide high (behind_line text rest)
+state_after (ReaderState.Boxed wide high rest) (Fixed text) = ReaderState.Boxed wide high (after_line text rest)
 state_after (ReaderState.Boxed wide high rest) (PageStart left bottom scale) =
     ReaderState.Framed (frame_from_numbers wide high left bottom scale) (glyph_lines glyphs_in_order ++ last_text)
-state_after (ReaderState.Framed frame rest) (Fixed text) = after_prolog frame (behind_line text rest)
+state_after (ReaderState.Framed frame rest) (Fixed text) = after_prolog frame (after_line text rest)
 state_after (ReaderState.Between s) (Heading k) = ReaderState.Headed s
 state_after (ReaderState.Between s) (Fixed text) = ReaderState.Trailer s
 state_after (ReaderState.Headed s) (Fixed text) = ReaderState.Items (record { sheet = s; items = [] })

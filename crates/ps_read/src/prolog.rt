@@ -3,7 +3,7 @@ ghost use Rattle.std.specs.Prelude.{◌%◌, [], ◌≤◌};
 ghost use Rattle.glyph_paths.specs.Names.{glyphs_in_order};
 ghost use Rattle.ps_text.specs.Prolog.{percent, page_line, glyph_lines, last_text};
 ghost use Rattle.ps_read.specs.ReaderStates.{after_prolog};
-ghost use Rattle.ps_read.specs.Lines.{IsFirstLine, behind_line};
+ghost use Rattle.ps_read.specs.Lines.{IsFirstLine, after_line};
 ghost use Rattle.ps_read.specs.Steps.{IsStep};
 ghost use Rattle.eng_lines.specs.Lines.{Lacks};
 ghost use Rattle.ps_read.specs.declared.state.ReaderState.TheVariants as at;
@@ -18,10 +18,10 @@ use ps_text::{Frame, Sheet};
 use std::alloc::Global;
 
 /// Returns what follows the line, if the text begins with it.
-fn behind<'a>(line: &[u8], text: &'a [u8]) -> Option<&'a [u8]>
+fn following<'a>(line: &[u8], text: &'a [u8]) -> Option<&'a [u8]>
     requires { Lacks 10 line.now }
     ensures { MatchOption result (IsFirstLine line.now text.now → ⊥)
-        (λ rest. IsFirstLine line.now text.now × (rest.now ≡ behind_line line.now text.now)) }
+        (λ rest. IsFirstLine line.now text.now × (rest.now ≡ after_line line.now text.now)) }
 {
     match strip(line, text) {
         Some([b'\n', rest @ ..]) => Some(rest),
@@ -82,7 +82,7 @@ fn scan_percent(bytes: &[u8]) -> Option<u16>
 /// Returns the margins and the scale that a line may spell.
 fn scan_page_line(raw: &[u8]) -> Option<(u32, u32, u16)>
     ensures small { IfSome result (λ r. (r.0 < 2 ^ 32) × (r.1 < 2 ^ 32)) }
-    ensures told { (left bottom scale : ℕ)
+    ensures reported { (left bottom scale : ℕ)
         → left < 2 ^ 32 → bottom < 2 ^ 32 → scale ≤ 150 → raw.now ≡ page_line left bottom scale
         → result ≡ Some (left, bottom, scale) }
 {
@@ -154,7 +154,7 @@ pub fn after_box(
     if rest.as_slice().is_empty() {
         return page_start(alloc, wide, high, raw);
     }
-    match behind(raw, rest.as_slice()) {
+    match following(raw, rest.as_slice()) {
         Some(more) => {
             let rest = Text::from_slice(alloc, more)?;
             Ok(Some(ReaderState::Boxed { wide, high, rest }))
@@ -188,7 +188,7 @@ pub fn after_frame(
     requires { Lacks 10 raw.now }
     ensures { IfOk result (IsStep (at.Framed frame rest) raw.now) }
 {
-    match behind(raw, rest.as_slice()) {
+    match following(raw, rest.as_slice()) {
         Some(more) => Ok(Some(after_prolog(alloc, frame, more)?)),
         None => Ok(None),
     }

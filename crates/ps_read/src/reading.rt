@@ -79,12 +79,12 @@ pub fn read_document(alloc: Global, b: &[u8]) -> Result<Sheet, PagesError>
     let mut place = ReaderState::Begun;
     let mut rest = b;
     let mut line: u64 = 1;
-    while let Some((raw, behind)) = cut_at(b'\n', rest) {
+    while let Some((raw, following)) = cut_at(b'\n', rest) {
         let Some(next) = step(alloc, place, raw)? else {
             return Err(PagesError::NotPages { line });
         };
         place = next;
-        rest = behind;
+        rest = following;
         line += 1;
     }
     if !rest.is_empty() {

@@ -73,9 +73,9 @@ prefix_len-last (x ∷ xs) h =
     let p = and_parts (is_field_byte x) (list_all is_field_byte xs) h in rw (p.0, prefix_len-last xs p.1) (omega arith)
 
 -- the number at the start, and the rest from its space on
-pub front_of_number : (z : ℤ) (rest bytes : List ℕ)
+pub prefix_of_number : (z : ℤ) (rest bytes : List ℕ)
     → ReadsNumber z rest bytes → take (prefix_len is_field_byte bytes) bytes ≡ signed_decimal z
-front_of_number z rest bytes h =
+prefix_of_number z rest bytes h =
     rw (h.spelled, prefix_len-field (signed_decimal z) rest (signed_is_field z h.number))
     (take-append_seam (signed_decimal z) (32 ∷ rest))
 

@@ -37,11 +37,11 @@ pub fn take_number(bytes: &[u8]) -> Option<(i64, &[u8])>
         → ReadsNumber z rest bytes.now → IsSomeAnd result (λ r. (r.0 ≡ z) × (r.1.now ≡ rest)) }
     ensures last { list_all is_field_byte bytes.now ≡ true → IsNone result }
 {
-    let (front, rest) = bytes.split_at(field_len(bytes));
+    let (prefix, rest) = bytes.split_at(field_len(bytes));
     match rest {
         [] => None,
         [_, after @ ..] => {
-            let z = parsed(front)?;
+            let z = parsed(prefix)?;
             Some((z, after))
         }
     }

@@ -57,8 +57,8 @@ pub fn token(alloc: Global, bytes: &[u8]) -> Result<TokenRead<'_>, Memory>
         TokenStart::Closing(_) => Ok(TokenRead::Not(Cause::Unclosed)),
         TokenStart::Unread(cause) => Ok(TokenRead::Not(cause)),
         TokenStart::Opening(after) => match body(alloc, after)? {
-            BodyRead::Whole(tokens, behind) => {
-                Ok(TokenRead::Found(MachineToken::Procedure(tokens), behind))
+            BodyRead::Whole(tokens, following) => {
+                Ok(TokenRead::Found(MachineToken::Procedure(tokens), following))
             }
             BodyRead::Not(cause) => Ok(TokenRead::Not(cause)),
         },

@@ -16,7 +16,7 @@ impl Answers for ReadingCalls {
     fn put_answer(&self, out: &mut Report, case: CallCase<'_>, input: &[u8]) -> Result<(), Memory> {
         match case.call {
             "read_music" => put_music(out, case.word, input),
-            "read_front" => put_front(out, case.word, input),
+            "read_prefix" => put_front(out, case.word, input),
             "read_part" => put_line_parts(out, case.word, input),
             "spell" => put_spelling(out, case.word, input),
             _ => put_lines(out, case, input),

@@ -29,9 +29,9 @@ pub(crate) fn put_music(out: &mut Report, word: &str, bytes: &[u8]) -> Result<()
 
 /// Adds the tokens of a music line up to its first fault, and that fault if it has one.
 pub(crate) fn put_front(out: &mut Report, word: &str, bytes: &[u8]) -> Result<(), Memory> {
-    let front = read_prefix(out.alloc, &line_of(out.alloc, bytes)?, is_bang(word))?;
-    put_tokens(out, front.tokens.as_slice())?;
-    put_end(out, front.fault)
+    let prefix = read_prefix(out.alloc, &line_of(out.alloc, bytes)?, is_bang(word))?;
+    put_tokens(out, prefix.tokens.as_slice())?;
+    put_end(out, prefix.fault)
 }
 
 fn put_end(out: &mut Report, fault: Option<Fault>) -> Result<(), Memory> {
@@ -56,7 +56,7 @@ fn put_parts(out: &mut Report, line: &Line) -> Result<(), Memory>
 {
     let first = read_part(out.alloc, line, false, start(line))?;
     out.show(first.tokens.len())?;
-    match first.behind {
+    match first.following {
         LineRest::More(place) => put_part(out, line, place),
         LineRest::End(fault) => put_end(out, fault),
     }

@@ -20,9 +20,9 @@ pub(crate) fn put_height(out: &mut Report, word: &str, bytes: &[u8]) -> Result<(
 
 /// Returns the heads of the notes of a line.
 fn heads_of(alloc: Global, bytes: &[u8]) -> Result<Row<Head>, Memory> {
-    let front = read_prefix(alloc, &line_of(alloc, bytes)?, false)?;
+    let prefix = read_prefix(alloc, &line_of(alloc, bytes)?, false)?;
     let mut heads = Row::new(alloc);
-    for placed in front.tokens.as_slice() {
+    for placed in prefix.tokens.as_slice() {
         if let Some(head) = head_of(placed) {
             heads.push(head)?;
         }

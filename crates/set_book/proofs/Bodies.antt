@@ -10,7 +10,7 @@ use Rattle.abc_lines.specs.Kinds.{kind_of}
 use Rattle.abc_steps.specs.declared.step.BodyItem.{BodyItem}
 use Rattle.abc_field.specs.declared.directive.Breaks.{Breaks}
 use Rattle.abc_fields.specs.declared.header.Header.{Header}
-use Rattle.set_book.proofs.LineFaults.{one_front_of}
+use Rattle.set_book.proofs.LineFaults.{one_prefix_of}
 use Rattle.abc_items.specs.Body.{ItemOrFault, KindGives, BodyGives, no_lines, one_line, judged_items, first_item_fault}
 use Rattle.abc_items.specs.Body.{items_in, IsBody, HasFault}
 use Rattle.abc_items.specs.Voices.{declared_ids}
@@ -19,26 +19,27 @@ use Rattle.abc_items.proofs.Laws.{stays}
 one_by_kind : (breaks : Breaks) (line : Line) (kind : LineKind) (g h : List ItemOrFault)
     → KindGives breaks line kind g → KindGives breaks line kind h → g ≡ h
 one_by_kind breaks line LineKind.Music g h a b =
-    let o = one_front_of breaks.bang line a.0 b.0 a.1 b.1 a.2 b.2 in a.3 ∙ sym (b.3 ∙ rw (o.0, o.1) refl)
+    let o = one_prefix_of breaks.bang line a.0 b.0 a.1 b.1 a.2 b.2 in a.3 ∙ sym (b.3 ∙ rw (o.0, o.1) refl)
 one_by_kind breaks line kind g h a b = a ∙ sym b
 
 -- what some first lines give is a prefix of what all lines give
-front_given : (breaks : Breaks) (lines more : List Line) (g h : List ItemOrFault)
+prefix_given : (breaks : Breaks) (lines more : List Line) (g h : List ItemOrFault)
     → BodyGives breaks lines g → BodyGives breaks (lines ++ more) h → (rest : List ItemOrFault) × (h ≡ g ++ rest)
-front_given breaks _ more _ h no_lines b = (h, refl)
-front_given breaks _ more _ _ (one_line line lines first others g here behind is)
+prefix_given breaks _ more _ h no_lines b = (h, refl)
+prefix_given breaks _ more _ _ (one_line line lines first others g here following is)
     (one_line _ _ one many h there later are) =
     let e = one_by_kind breaks line (kind_of line.text) one first there here in
-    let o = front_given breaks lines more others many behind later in
+    let o = prefix_given breaks lines more others many following later in
     (o.0, cc (o.1, append_assoc first others o.0))
 
 one_given : (breaks : Breaks) (lines : List Line) (g h : List ItemOrFault)
     → BodyGives breaks lines g → BodyGives breaks lines h → g ≡ h
 one_given breaks _ _ _ no_lines no_lines = refl
-one_given breaks _ _ _ (one_line line lines first others g here behind is) (one_line _ _ one many h there later are) =
+one_given breaks _ _ _ (one_line line lines first others g here following is)
+    (one_line _ _ one many h there later are) =
     cc (
       one_by_kind breaks line (kind_of line.text) first one here there,
-      one_given breaks lines others many behind later,
+      one_given breaks lines others many following later,
     )
 
 -- ---- the items and the fault
@@ -53,10 +54,10 @@ fault_stays : (header : Header) (lines : List Line) (fault : Fault) (a : HasFaul
     → a.count ≤ far → BodyGives header.breaks (take far lines) h
     → first_item_fault (judged_items (declared_ids header) h) ≡ Some fault
 fault_stays header lines fault a far h less b =
-    let front = take far lines in
-    let whole : take a.count lines ++ drop a.count front ≡ front =
-    ap (λ ls. ls ++ drop a.count front) (sym (take-take a.count far lines less)) ∙ take-append-drop a.count front in
-    let o = front_given header.breaks (take a.count lines) (drop a.count front) a.given h a.gives_so
+    let prefix = take far lines in
+    let whole : take a.count lines ++ drop a.count prefix ≡ prefix =
+    ap (λ ls. ls ++ drop a.count prefix) (sym (take-take a.count far lines less)) ∙ take-append-drop a.count prefix in
+    let o = prefix_given header.breaks (take a.count lines) (drop a.count prefix) a.given h a.gives_so
     (subst (λ ls. BodyGives header.breaks ls h) (sym whole) b) in
     rw o.1 (stays (declared_ids header) a.given o.0 fault a.first)
 

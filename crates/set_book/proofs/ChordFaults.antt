@@ -26,10 +26,10 @@ none_at_bracket bang rest = none_of (inner_reader bang) (93 ∷ rest) refl
 still_inside : (bang : Bool) (text : List ℕ) (ps : List Inner) (x : List ℕ)
     → list_all is_inside text ≡ true → InnerLeads bang text ps x → list_all is_inside x ≡ true
 still_inside bang _ _ _ all (leads_here text) = all
-still_inside bang _ _ _ all (leads_on text part behind more rest l others) =
-    let cut : text ≡ inner_then part [] ++ behind = l.stands.cut ∙ sym (inner_append part [] behind) in
-    still_inside bang behind more rest
-    (all_parts is_inside (inner_then part []) behind (sym (ap (list_all is_inside) cut) ∙ all)).1 others
+still_inside bang _ _ _ all (leads_on text part following more rest l others) =
+    let cut : text ≡ inner_then part [] ++ following = l.stands.cut ∙ sym (inner_append part [] following) in
+    still_inside bang following more rest
+    (all_parts is_inside (inner_then part []) following (sym (ap (list_all is_inside) cut) ∙ all)).1 others
 
 -- parts don't lead to the end, to a bracket and to another byte at once
 end_or_bracket : (bang : Bool) (text : List ℕ) (ps qs : List Inner) (rest : List ℕ)
@@ -39,11 +39,12 @@ end_or_bracket bang text ps qs rest l m =
     (none_at_bracket bang rest) in
     cc
 
-bracket_or_byte : (bang : Bool) (text : List ℕ) (ps qs : List Inner) (rest : List ℕ) (byte : ℕ) (behind : List ℕ)
-    → InnerLeads bang text ps (93 ∷ rest) → InnerLeads bang text qs (byte ∷ behind)
-    → HasNone Inner (StandsInside bang) (byte ∷ behind) → (byte == 93) ≡ false → ⊥
-bracket_or_byte bang text ps qs rest byte behind l m none off =
-    let e = one_stop (inner_reader bang) text ps (93 ∷ rest) qs (byte ∷ behind) l (none_at_bracket bang rest) m none in
+bracket_or_byte : (bang : Bool) (text : List ℕ) (ps qs : List Inner) (rest : List ℕ) (byte : ℕ) (following : List ℕ)
+    → InnerLeads bang text ps (93 ∷ rest) → InnerLeads bang text qs (byte ∷ following)
+    → HasNone Inner (StandsInside bang) (byte ∷ following) → (byte == 93) ≡ false → ⊥
+bracket_or_byte bang text ps qs rest byte following l m none off =
+    let e =
+    one_stop (inner_reader bang) text ps (93 ∷ rest) qs (byte ∷ following) l (none_at_bracket bang rest) m none in
     let b : byte ≡ 93 = cc in
     true≢false (sym (ap (λ x. x == 93) b) ∙ off)
 
@@ -63,13 +64,13 @@ one_chord_fault bang _ _ _ (chord_headless text ps rest l _) (chord_unclosed _ a
     absurd (true≢false (sym (still_inside bang text ps (93 ∷ rest) all l)))
 one_chord_fault bang _ _ _ (chord_headless text ps rest l _) (chord_open _ qs m) =
     absurd (end_or_bracket bang text qs ps rest m l)
-one_chord_fault bang _ _ _ (chord_headless text ps rest l _) (chord_flawed _ qs byte behind _ _ m none off _) =
-    absurd (bracket_or_byte bang text ps qs rest byte behind l m none off)
+one_chord_fault bang _ _ _ (chord_headless text ps rest l _) (chord_flawed _ qs byte following _ _ m none off _) =
+    absurd (bracket_or_byte bang text ps qs rest byte following l m none off)
 one_chord_fault bang _ _ _ (chord_flawed text _ _ _ _ some _ _ _ _) (chord_unclosed _ all) = cc
 one_chord_fault bang _ _ _ (chord_flawed text _ _ _ f _ _ _ _ a) (chord_open _ qs m) =
     absurd (never_done (inner_reader bang) has_length IsBadByte text qs None f m a)
-one_chord_fault bang _ _ _ (chord_flawed text ps byte behind _ _ l none off _) (chord_headless _ qs rest m _) =
-    absurd (bracket_or_byte bang text qs ps rest byte behind m l none off)
+one_chord_fault bang _ _ _ (chord_flawed text ps byte following _ _ l none off _) (chord_headless _ qs rest m _) =
+    absurd (bracket_or_byte bang text qs ps rest byte following m l none off)
 one_chord_fault bang _ _ _ (chord_flawed text _ _ _ f _ _ _ _ a) (chord_flawed _ _ _ _ g _ _ _ _ b) =
     one_flaw (inner_reader bang) has_length IsBadByte one_bad None text f g a b
 one_chord_fault bang _ _ _ _ _ = refl

@@ -30,27 +30,28 @@ by_kind bang at byte s f g None a b =
     a b
 by_kind bang at byte s f g (Some kind) a b = a ∙ sym b
 
-one_front : (bang : Bool) (n : ℕ) (before : PieceBefore) (at : ℕ) (s : List ℕ) (ts : List Placed) (e : Option Flaw)
+one_prefix : (bang : Bool) (n : ℕ) (before : PieceBefore) (at : ℕ) (s : List ℕ) (ts : List Placed) (e : Option Flaw)
     (us : List Placed) (d : Option Flaw)
     → GivesTokens bang n before at s ts e → GivesTokens bang n before at s us d → (ts ≡ us) × (e ≡ d)
-one_front bang n _ _ _ _ _ _ _ (clear _ _) (clear _ _) = (refl, refl)
-one_front bang n _ _ _ _ _ _ _ (clear before at) (leads _ _ _ f rest _ _ _ l _ _) =
+one_prefix bang n _ _ _ _ _ _ _ (clear _ _) (clear _ _) = (refl, refl)
+one_prefix bang n _ _ _ _ _ _ _ (clear before at) (leads _ _ _ f rest _ _ _ l _ _) =
     absurd (none_at_end (piece_reader bang before) f rest l.stands)
-one_front bang n _ _ _ _ _ _ _ (breaks before at byte s f _ a) (breaks _ _ _ _ g _ b) =
+one_prefix bang n _ _ _ _ _ _ _ (breaks before at byte s f _ a) (breaks _ _ _ _ g _ b) =
     (refl, ap Some (by_kind bang at byte s f g (kind_after before byte) a b))
-one_front bang n _ _ _ _ _ _ _ (breaks _ _ _ _ _ none _) (leads _ _ _ f rest _ _ _ l _ _) =
+one_prefix bang n _ _ _ _ _ _ _ (breaks _ _ _ _ _ none _) (leads _ _ _ f rest _ _ _ l _ _) =
     absurd (none f rest l.stands)
-one_front bang n _ _ _ _ _ _ _ (leads before at _ f rest _ _ _ l _ _) (clear _ _) =
+one_prefix bang n _ _ _ _ _ _ _ (leads before at _ f rest _ _ _ l _ _) (clear _ _) =
     absurd (none_at_end (piece_reader bang before) f rest l.stands)
-one_front bang n _ _ _ _ _ _ _ (leads _ _ _ f rest _ _ _ l _ _) (breaks _ _ _ _ _ none _) =
+one_prefix bang n _ _ _ _ _ _ _ (leads _ _ _ f rest _ _ _ l _ _) (breaks _ _ _ _ _ none _) =
     absurd (none f rest l.stands)
-one_front bang n _ _ _ _ _ _ _ (leads before at s f rest ts all end l a is) (leads _ _ _ g other us those stop m b so) =
+one_prefix bang n _ _ _ _ _ _ _ (leads before at s f rest ts all end l a is)
+    (leads _ _ _ g other us those stop m b so) =
     let same = one_longest (piece_reader bang before) s g f other rest m l in
-    let more = one_front bang n (after f) (length s) rest ts end us stop a (rw (same.0, same.1) at b) in
+    let more = one_prefix bang n (after f) (length s) rest ts end us stop a (rw (same.0, same.1) at b) in
     (is ∙ sym (so ∙ rw (same.0, more.0) refl), more.1)
 
-pub one_front_of : (bang : Bool) (line : Line) (ts us : List Placed) (f g : Option Fault)
+pub one_prefix_of : (bang : Bool) (line : Line) (ts us : List Placed) (f g : Option Fault)
     → GivesTokensOf bang line ts f → GivesTokensOf bang line us g → (ts ≡ us) × (f ≡ g)
-one_front_of bang line ts us f g a b =
-    let o = one_front bang (length line.text) _ 0 line.text ts a.0 us b.0 a.1 b.1 in
+one_prefix_of bang line ts us f g a b =
+    let o = one_prefix bang (length line.text) _ 0 line.text ts a.0 us b.0 a.1 b.1 in
     (o.0, a.2 ∙ ap (option_map (fault_at line)) o.1 ∙ sym b.2)

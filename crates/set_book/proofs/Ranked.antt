@@ -17,7 +17,7 @@ use Rattle.abc_steps.specs.declared.tuplets.OpenTuplets.{OpenTuplets}
 use Rattle.abc_steps.specs.Looks.{Steps, has_left, has_right}
 use Rattle.abc_steps.specs.Places.{state_at}
 use Rattle.abc_steps.specs.Tuplets.{fits, or_default}
-use Rattle.abc_faults.specs.Faults.{step_fault, fault_if, misfit_of, sounds_behind, any_grace_off, grace_faults_of}
+use Rattle.abc_faults.specs.Faults.{step_fault, fault_if, misfit_of, sounds_after, any_grace_off, grace_faults_of}
 use Rattle.abc_faults.specs.Faults.{grace_faults, sound_faults, faults_of, faults_in}
 use Rattle.abc_faults.specs.First.{kind_rank, is_before, IsLeastFault, IsFirstInOrder}
 use Rattle.abc_faults.specs.Weights.{crowd_fault, crowd_faults_at, crowd_up_to}
@@ -76,13 +76,13 @@ misfit_ranked : (t : OpenTuplets) → kind_rank (misfit_of t) < 20
 misfit_ranked (OpenTuplets.Nested inner outer) = omega arith
 misfit_ranked _ = omega arith
 
-tuplet_ranked : (b : Bool) (r : ℕ) (open_ones : OpenTuplets) (at : PlacedStep) (behind : Steps)
+tuplet_ranked : (b : Bool) (r : ℕ) (open_ones : OpenTuplets) (at : PlacedStep) (following : Steps)
     → AreRanked
-    (cond b (fault_if (nat_lt (sounds_behind behind) r) FaultKind.TupletShort at)
+    (cond b (fault_if (nat_lt (sounds_after following) r) FaultKind.TupletShort at)
     (step_fault (misfit_of open_ones) at ∷ []))
-tuplet_ranked true r open_ones at behind =
-    if_ranked (nat_lt (sounds_behind behind) r) FaultKind.TupletShort at (omega arith)
-tuplet_ranked false r open_ones at behind = (misfit_ranked open_ones, tt)
+tuplet_ranked true r open_ones at following =
+    if_ranked (nat_lt (sounds_after following) r) FaultKind.TupletShort at (omega arith)
+tuplet_ranked false r open_ones at following = (misfit_ranked open_ones, tt)
 
 grace_ranked : (clef : Clef) (at : PlacedStep) (s : Step) → AreRanked (grace_faults_of clef at s)
 unfolding grace_faults_of
@@ -95,29 +95,29 @@ graces_ranked clef waits = each_ranked (λ s. grace_faults_of clef s s.step) wai
 both_ranked : (fs gs : List Fault) → AreRanked fs → AreRanked gs → AreRanked (fs ++ gs)
 both_ranked fs gs a b = all_both IsRanked fs gs a b
 
-step_ranked : (now : VoiceState) (before : Steps) (at : PlacedStep) (behind : Steps) (s : Step)
-    → AreRanked (faults_of now before at behind s)
+step_ranked : (now : VoiceState) (before : Steps) (at : PlacedStep) (following : Steps) (s : Step)
+    → AreRanked (faults_of now before at following s)
 unfolding faults_of sound_faults
-step_ranked now before at behind (Step.Sound s) = search (rules, both_ranked, if_ranked, graces_ranked) depth 12
-step_ranked now before at behind (Step.Measures seen count) =
+step_ranked now before at following (Step.Sound s) = search (rules, both_ranked, if_ranked, graces_ranked) depth 12
+step_ranked now before at following (Step.Measures seen count) =
     search (rules, both_ranked, if_ranked, graces_ranked) depth 12
-step_ranked now before at behind (Step.Tuplet p q r) =
-    tuplet_ranked (fits (or_default p r) now.taking) (or_default p r) now.taking at behind
-step_ranked now before at behind (Step.Broken right dots) =
-    if_ranked (not (has_left before && has_right behind)) FaultKind.BrokenAlone at (omega arith)
-step_ranked now before at behind _ = tt
+step_ranked now before at following (Step.Tuplet p q r) =
+    tuplet_ranked (fits (or_default p r) now.taking) (or_default p r) now.taking at following
+step_ranked now before at following (Step.Broken right dots) =
+    if_ranked (not (has_left before && has_right following)) FaultKind.BrokenAlone at (omega arith)
+step_ranked now before at following _ = tt
 
-steps_ranked : (first : InForce) (before behind : Steps) → AreRanked (faults_in first before behind)
+steps_ranked : (first : InForce) (before following : Steps) → AreRanked (faults_in first before following)
 steps_ranked first before [] = tt
-steps_ranked first before (at ∷ behind) =
-    both_ranked _ _ (step_ranked (state_at first before) before at behind at.step)
-    (steps_ranked first (at ∷ before) behind)
+steps_ranked first before (at ∷ following) =
+    both_ranked _ _ (step_ranked (state_at first before) before at following at.step)
+    (steps_ranked first (at ∷ before) following)
 
-verses_ranked : (before behind : List Verse) → AreRanked (faults_from before behind)
+verses_ranked : (before following : List Verse) → AreRanked (faults_from before following)
 verses_ranked before [] = tt
-verses_ranked before (v ∷ behind) =
+verses_ranked before (v ∷ following) =
     both_ranked _ _ (when_ranked (nat_le 8 (number_on v.row before)) (too_many v.line) (omega arith))
-    (verses_ranked (before ++ v ∷ []) behind)
+    (verses_ranked (before ++ v ∷ []) following)
 
 voice_ranked : (unnamed : List ℕ) (items : List BodyItem) (v : ReadVoice) → AreRanked (voice_faults unnamed items v)
 voice_ranked unnamed items v =

@@ -80,10 +80,10 @@ same_first n p s ps ss h k (is_later more) (is_later others) =
     absurd (omega (arith, o, q))
 
 -- the members of the lists after the same span
-behind : (n : ℕ) (s : Span) (xs ys : List Span)
+following : (n : ℕ) (s : Span) (xs ys : List Span)
     → SpansFrom n (Some s) xs → SpansFrom n (Some s) ys → (a b : ℕ) → listed (s ∷ xs) a b ≡ listed (s ∷ ys) a b
     → listed xs a b ≡ listed ys a b
-behind n s xs ys h k a b e = at (has_ends a b s) refl e
+following n s xs ys h k a b e = at (has_ends a b s) refl e
   where
     at : (t : Bool) → has_ends a b s ≡ t
         → (if t then Some s.badness else listed xs a b) ≡ (if t then Some s.badness else listed ys a b)
@@ -101,7 +101,7 @@ same_listed n last past (x ∷ xs) (y ∷ ys) h k same =
     (found y ys x.a x.b x.badness (sym (same x.a x.b) ∙ first_listed x xs)) in
     let form = subst (λ z. SpansFrom n (Some z) ys) (sym e) k.1 in
     let more = same_listed n (Some x) (Some x) xs ys h.1 form
-    (λ a b. behind n x xs ys h.1 form a b (same a b ∙ ap (λ z. listed (z ∷ ys) a b) (sym e))) in
+    (λ a b. following n x xs ys h.1 form a b (same a b ∙ ap (λ z. listed (z ∷ ys) a b) (sym e))) in
     cc
 
 -- ---- the spans of a score

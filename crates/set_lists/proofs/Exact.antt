@@ -22,7 +22,7 @@ use Rattle.set_book.specs.{declared.outcome.Outcome.Outcome, Once.HaveOneOutcome
 use Rattle.set_lists.specs.Laws.{HasItsBreakings, ListsTheBook, NoWayIsExact}
 use Rattle.set_lists.proofs.Legal.{breakings_of_listing}
 use Rattle.set_lists.proofs.Numbers.{book_rises}
-use Rattle.set_lists.proofs.Told.{lists_the_set}
+use Rattle.set_lists.proofs.Reported.{lists_the_set}
 
 -- ---- the listing of a book
 module _ (terms : Terms) where
@@ -60,22 +60,22 @@ module _ (one : HaveOneOutcome) (tune : TuneText) (terms : Terms) (header : Head
       subst (λ s. IsLegalIn s (body_width terms.paper) t.breaking.breaks)
       (one.score tune terms.defaults terms.manner t.header header t.score score laid.score has) laid.layout.least.legal
 
-  told : (f : Fault) (reached : ℕ)
+  reported : (f : Fault) (reached : ℕ)
       → f.kind ≡ FaultKind.NoWay reached → IsFaultOfTune tune terms f → (breaks : List ℕ)
       → IsLegalIn score (body_width terms.paper) breaks
       → ⊥
-  told _ reached e (of_header f fault) breaks legal =
+  reported _ reached e (of_header f fault) breaks legal =
       one.scored tune terms.defaults terms.manner header score f has (inl (inl fault))
-  told _ reached e (of_score h f read fault) breaks legal =
+  reported _ reached e (of_score h f read fault) breaks legal =
       one.scored tune terms.defaults terms.manner header score f has (inl (inr (h, read, fault)))
-  told _ reached e (of_share f c) breaks legal =
+  reported _ reached e (of_share f c) breaks legal =
       one.scored tune terms.defaults terms.manner header score f has (inr (inl c))
-  told _ reached e (of_move c) breaks legal = let clash : FaultKind.BadMove ≡ FaultKind.NoWay reached = e in cc
-  told _ reached e (no_way h s i spans scored way) breaks legal =
+  reported _ reached e (of_move c) breaks legal = let clash : FaultKind.BadMove ≡ FaultKind.NoWay reached = e in cc
+  reported _ reached e (no_way h s i spans scored way) breaks legal =
       none_legal s (body_width terms.paper) i spans way breaks
       (subst (λ x. IsLegalIn x (body_width terms.paper) breaks)
       (one.score tune terms.defaults terms.manner header h score s has scored) legal)
-  told _ reached e (too_tall t block laid tall) breaks legal =
+  reported _ reached e (too_tall t block laid tall) breaks legal =
       let clash : FaultKind.TooTall block ≡ FaultKind.NoWay reached = e in cc
 
   came_by : (f : Fault) → IsFaultOfTune tune terms f
@@ -101,7 +101,7 @@ module _ (one : HaveOneOutcome) (tune : TuneText) (terms : Terms) (header : Head
 
 pub no_way_is_exact : HaveOneOutcome → NoWayIsExact
 no_way_is_exact one tune terms header score outcome has is = (
-  (λ way. told one tune terms header score has (layout_fault tune (FaultKind.NoWay way.0)) way.0 refl
+  (λ way. reported one tune terms header score has (layout_fault tune (FaultKind.NoWay way.0)) way.0 refl
       (subst (λ r. IsResult tune terms r) way.1 is.result)),
   came one tune terms header score has outcome.result is.result,
 )

@@ -3,4 +3,4 @@ pub mod Exact
 pub mod Finding
 pub mod Legal
 pub mod Numbers
-pub mod Told
+pub mod Reported

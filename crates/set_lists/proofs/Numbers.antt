@@ -6,7 +6,7 @@ use Rattle.std.proofs.lemmas.List.Splits.{length-slice_split}
 use Rattle.std.proofs.lemmas.List.Sums.{count_by-le-length}
 use Rattle.std.specs.List.{slice_split, starts_with}
 use Rattle.abc_lines.specs.declared.reading.LineContent.{LineContent}
-use Rattle.abc_lines.specs.Books.{begins_tune, book_of, tune_at, tunes_behind}
+use Rattle.abc_lines.specs.Books.{begins_tune, book_of, tune_at, tunes_after}
 use Rattle.abc_lines.specs.Lines.{byte_order_mark, is_end, lines_of, reading, readings, without_last_empty}
 use Rattle.abc_lines.specs.Lines.{without_mark}
 use Rattle.set_tune.specs.Terms.{Terms}
@@ -42,21 +42,21 @@ few_lines bytes =
 
 module _ (terms : Terms) (all : List LineContent) where
   -- the outcomes of the tunes that begin after some lines, the first of which has a number past k
-  rise_behind : (before lines : List LineContent) (k : ℕ) (os : List Outcome)
-      → k + length lines < 2 ^ 32 → AreOutcomes terms (tunes_behind all (suc k) before lines) os → OrdinalsRise k os
-  rise_behind before [] k [] l h = tt
-  rise_behind before [] k (o ∷ os) l h = absurd h
-  rise_behind before (line ∷ more) k os l h =
-      at (begins_tune line) os (λ ps g. rise_behind (line ∷ before) more (suc k) ps (omega (arith, l)) g)
-      (λ g. rise_behind (line ∷ before) more k os (omega (arith, l)) g) h
+  rise_after : (before lines : List LineContent) (k : ℕ) (os : List Outcome)
+      → k + length lines < 2 ^ 32 → AreOutcomes terms (tunes_after all (suc k) before lines) os → OrdinalsRise k os
+  rise_after before [] k [] l h = tt
+  rise_after before [] k (o ∷ os) l h = absurd h
+  rise_after before (line ∷ more) k os l h =
+      at (begins_tune line) os (λ ps g. rise_after (line ∷ before) more (suc k) ps (omega (arith, l)) g)
+      (λ g. rise_after (line ∷ before) more k os (omega (arith, l)) g) h
     where
       at : (t : Bool) (ps : List Outcome)
           → ((qs : List Outcome)
-          → AreOutcomes terms (tunes_behind all (suc (suc k)) (line ∷ before) more) qs → OrdinalsRise (suc k) qs)
-          → (AreOutcomes terms (tunes_behind all (suc k) (line ∷ before) more) ps → OrdinalsRise k ps)
+          → AreOutcomes terms (tunes_after all (suc (suc k)) (line ∷ before) more) qs → OrdinalsRise (suc k) qs)
+          → (AreOutcomes terms (tunes_after all (suc k) (line ∷ before) more) ps → OrdinalsRise k ps)
           → AreOutcomes terms
-          (if t then tune_at all (suc k) (suc (length before)) ∷ tunes_behind all (suc (suc k)) (line ∷ before) more
-          else tunes_behind all (suc k) (line ∷ before) more) ps → OrdinalsRise k ps
+          (if t then tune_at all (suc k) (suc (length before)) ∷ tunes_after all (suc (suc k)) (line ∷ before) more
+          else tunes_after all (suc k) (line ∷ before) more) ps → OrdinalsRise k ps
       at true [] further same h = absurd h
       at true (p ∷ ps) further same h =
           let e : p.ordinal ≡ suc k = h.0.ordinal in
@@ -66,5 +66,5 @@ module _ (terms : Terms) (all : List LineContent) where
 pub book_rises : BookRises
 unfolding book_of
 book_rises bytes terms os l h =
-    rise_behind terms (readings (without_mark bytes)) [] (readings (without_mark bytes)) 0 os
+    rise_after terms (readings (without_mark bytes)) [] (readings (without_mark bytes)) 0 os
     (let m = few_lines (without_mark bytes) in let n = unmarked bytes in omega (arith, l, m, n)) h

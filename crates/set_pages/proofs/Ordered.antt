@@ -29,19 +29,19 @@ pub record IsOrdered (xs : List Item) : Type 0 where
   pub free : BeginsFree xs
 
 order_append : (xs ys : List Item) → InOrder xs → InOrder ys → BeginsFree ys → InOrder (xs ++ ys)
-order_append [] ys front back free = back
-order_append (i ∷ []) [] front back free = tt
-order_append (i ∷ []) (j ∷ ys) front back free = (free i, back)
-order_append (i ∷ j ∷ xs) ys front back free = (front.0, order_append (j ∷ xs) ys front.1 back free)
+order_append [] ys prefix back free = back
+order_append (i ∷ []) [] prefix back free = tt
+order_append (i ∷ []) (j ∷ ys) prefix back free = (free i, back)
+order_append (i ∷ j ∷ xs) ys prefix back free = (prefix.0, order_append (j ∷ xs) ys prefix.1 back free)
 
 free_append : (xs ys : List Item) → BeginsFree xs → BeginsFree ys → BeginsFree (xs ++ ys)
-free_append [] ys front back = back
-free_append (i ∷ xs) ys front back = front
+free_append [] ys prefix back = back
+free_append (i ∷ xs) ys prefix back = prefix
 
 ordered_append : (xs ys : List Item) → IsOrdered xs → IsOrdered ys → IsOrdered (xs ++ ys)
-ordered_append xs ys front back = record {
-  order = order_append xs ys front.order back.order back.free;
-  free = free_append xs ys front.free back.free;
+ordered_append xs ys prefix back = record {
+  order = order_append xs ys prefix.order back.order back.free;
+  free = free_append xs ys prefix.free back.free;
 }
 
 free_tune : (ordinal : ℕ) (i : Item) → IsAfter i (Item.Tune ordinal)
@@ -76,8 +76,8 @@ drawn_ordered width top (Some ordinal) (system m at bases) h = record { order = 
 
 if_put : (P : List Item → Type 0) (b : Bool) (xs ys : List Item)
     → (P xs → P ys → P (xs ++ ys)) → P xs → P ys → P (cond b xs [] ++ ys)
-if_put P true xs ys join front back = join front back
-if_put P false xs ys join front back = back
+if_put P true xs ys join prefix back = join prefix back
+if_put P false xs ys join prefix back = back
 
 pub items_ordered : (width page : ℕ) (ds : List Drawing) (ss : List Spot)
     → All IsBegun ds → IsOrdered (items_on width page ds ss)

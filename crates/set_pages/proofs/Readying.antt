@@ -7,7 +7,7 @@ use Rattle.std.specs.Prelude.{All, Result, Ok, Err}
 use Rattle.abc_lines.specs.declared.book.TuneText.{TuneText}
 use Rattle.abc_lines.specs.declared.fault.Fault.{Fault}
 use Rattle.abc_lines.specs.declared.reading.LineContent.{LineContent}
-use Rattle.abc_lines.specs.Books.{begins_tune, book_of, tune_at, tunes_behind}
+use Rattle.abc_lines.specs.Books.{begins_tune, book_of, tune_at, tunes_after}
 use Rattle.abc_lines.specs.Lines.{readings, without_mark}
 use Rattle.abc_fields.specs.declared.paper.Paper.{Paper}
 use Rattle.abc_fields.specs.Papers.{body_height, body_width}
@@ -74,12 +74,12 @@ set_outcomes terms tunes outcomes some h = absurd h
 
 -- the tunes of a book are counted from 1
 tunes_counted : (all : List LineContent) (ordinal : ℕ) (before lines : List LineContent)
-    → 1 ≤ ordinal → All (λ tune. 1 ≤ tune.ordinal) (tunes_behind all ordinal before lines)
+    → 1 ≤ ordinal → All (λ tune. 1 ≤ tune.ordinal) (tunes_after all ordinal before lines)
 tunes_counted all ordinal before [] some = All-nil (λ tune. 1 ≤ tune.ordinal)
 tunes_counted all ordinal before (line ∷ more) some =
     elim (begins_tune line) as (λ b. All (λ tune. 1 ≤ tune.ordinal)
-    (if b then tune_at all ordinal (suc (length before)) ∷ tunes_behind all (suc ordinal) (line ∷ before) more
-    else tunes_behind all ordinal (line ∷ before) more)) [
+    (if b then tune_at all ordinal (suc (length before)) ∷ tunes_after all (suc ordinal) (line ∷ before) more
+    else tunes_after all ordinal (line ∷ before) more)) [
       | true ↦
           All-cons (λ (tune : TuneText). 1 ≤ tune.ordinal) _ _ some
           (tunes_counted all (suc ordinal) (line ∷ before) more (omega arith))

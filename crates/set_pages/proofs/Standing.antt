@@ -14,7 +14,7 @@ use Rattle.lay_pages.specs.declared.filling.Block.{Block}
 use Rattle.lay_pages.specs.declared.filling.Spot.{Spot}
 use Rattle.lay_pages.specs.declared.stacking.Heights.{Heights}
 use Rattle.lay_pages.specs.declared.titles.TitleRow.{TitleRow}
-use Rattle.lay_pages.specs.Even.{StandByPages, ComeBehind, same_page, next_page}
+use Rattle.lay_pages.specs.Even.{StandByPages, ComeAfter, same_page, next_page}
 use Rattle.lay_pages.specs.Filling.{AreGoodBlocks, AreWithin}
 use Rattle.set_tune.specs.declared.tune.SetTune.{SetTune}
 use Rattle.set_tune.specs.Blocks.{blocks_of, is_some_list, title_blocks}
@@ -26,7 +26,7 @@ use Rattle.set_pages.specs.Ready.{AreRising, AreRisingFrom, HasAllRows, IsReady,
 
 -- pages rise by at most one
 rising_from : (high : ℕ) (block : Block) (blocks : List Block) (spot : Spot) (spots : List Spot)
-    → AreWithin high (block ∷ blocks) (spot ∷ spots) → ComeBehind high (block ∷ blocks) (spot ∷ spots)
+    → AreWithin high (block ∷ blocks) (spot ∷ spots) → ComeAfter high (block ∷ blocks) (spot ∷ spots)
     → AreRisingFrom spot.page spots
 rising_from high block blocks spot [] within come = tt
 rising_from high block [] spot (next ∷ spots) within come = absurd within.1
@@ -74,8 +74,8 @@ tune_drawings_count ordinal t whole =
     simp (drawings_count, length-append, systems_count t.systems t.placed t.heights whole.placed whole.heights)
 
 pub good_append : (xs ys : List Block) → AreGoodBlocks xs → AreGoodBlocks ys → AreGoodBlocks (xs ++ ys)
-good_append [] ys front back = back
-good_append (x ∷ xs) ys front back = (front.0, good_append xs ys front.1 back)
+good_append [] ys prefix back = back
+good_append (x ∷ xs) ys prefix back = (prefix.0, good_append xs ys prefix.1 back)
 
 pub result_count : (ordinal : ℕ) (r : Result SetTune Fault)
     → IsWholeResult r → length (result_drawings ordinal r) ≡ length (result_blocks r)

@@ -7,7 +7,7 @@ use Rattle.abc_fields.specs.{declared.paper.Paper.Paper, Papers.{body_height, bo
 use Rattle.lay_pages.specs.declared.filling.Block.{Block}
 use Rattle.lay_pages.specs.declared.filling.Spot.{Spot}
 use Rattle.lay_pages.specs.declared.filling.PlacedBlock.{PlacedBlock}
-use Rattle.lay_pages.specs.Filling.{AreGoodBlocks, AreWithin, CanFollow, behind_after, spots_behind}
+use Rattle.lay_pages.specs.Filling.{AreGoodBlocks, AreWithin, CanFollow, last_block_after, spots_after}
 use Rattle.set_pages.specs.Sheet.{AreStanding, IsSetUnder, all_spots, sheet_of}
 use Rattle.set_pages.specs.declared.plan.PagePlan.{PagePlan}
 use Rattle.set_pages.specs.declared.builder.PageBuilder.{PageBuilder}
@@ -23,20 +23,20 @@ use Rattle.set_book.specs.declared.outcome.Outcome.{Outcome}
 
 -- nothing was added yet
 abbrev pub empty_builder : PageBuilder
-empty_builder = record { begun = 0; behind = None; put = 0 }
+empty_builder = record { begun = 0; last_block = None; put = 0 }
 
 -- the last of the filled blocks
 abbrev pub last_block_by : PagePlan → Paper → List Outcome → Option PlacedBlock
-last_block_by PagePlan.Filled paper outcomes = behind_after (body_height paper) None (all_blocks outcomes)
+last_block_by PagePlan.Filled paper outcomes = last_block_after (body_height paper) None (all_blocks outcomes)
 last_block_by (PagePlan.At spots) paper outcomes = None
 
 -- where more blocks go, after those that were added, and the last of them
 abbrev pub next_spots : PagePlan → ℕ → PageBuilder → List Block → List Spot
-next_spots PagePlan.Filled high p blocks = spots_behind high p.behind blocks
+next_spots PagePlan.Filled high p blocks = spots_after high p.last_block blocks
 next_spots (PagePlan.At spots) high p blocks = take (length blocks) (drop p.put spots)
 
 abbrev pub next_last_block : PagePlan → ℕ → PageBuilder → List Block → Option PlacedBlock
-next_last_block PagePlan.Filled high p blocks = behind_after high p.behind blocks
+next_last_block PagePlan.Filled high p blocks = last_block_after high p.last_block blocks
 next_last_block (PagePlan.At spots) high p blocks = None
 
 -- the plan has room for more blocks: they are on the pages that it says
@@ -52,7 +52,7 @@ RisesBy (PagePlan.At spots) = AreRising spots
 
 -- others may be added after the last block
 abbrev pub CanGoOn : PageBuilder → Type 0
-CanGoOn p = CanFollow p.behind
+CanGoOn p = CanFollow p.last_block
 
 -- the text of the pages of these outcomes, up to the end of the last
 unfoldable pub begun_text : PagePlan → Paper → List Outcome → List ℕ
@@ -66,7 +66,7 @@ pub record IsBuiltFrom (plan : PagePlan) (paper : Paper) (outcomes : List Outcom
   pub set : All (IsSetUnder paper) outcomes
   pub begun : p.begun ≡ begun_after 0 (all_spots plan paper outcomes)
   pub few : p.begun < 2 ^ 32
-  pub behind : p.behind ≡ last_block_by plan paper outcomes
+  pub last_block : p.last_block ≡ last_block_by plan paper outcomes
   pub put : p.put ≡ length (all_blocks outcomes)
   pub drawn : AllZip (IsDrawnInRange (body_width paper)) (all_drawings outcomes) (all_spots plan paper outcomes)
   pub good : AreGoodBlocks (all_blocks outcomes)

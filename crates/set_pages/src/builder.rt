@@ -27,7 +27,7 @@ use std::alloc::Global;
 #[derive(Drop)]
 pub struct PageBuilder {
     pub begun: u32,
-    pub(crate) behind: Option<PlacedBlock>,
+    pub(crate) last_block: Option<PlacedBlock>,
     pub(crate) put: usize,
 }
 
@@ -47,7 +47,7 @@ pub fn new_builder() -> PageBuilder
 {
     PageBuilder {
         begun: 0,
-        behind: None,
+        last_block: None,
         put: 0,
     }
 }
@@ -62,21 +62,21 @@ fn place_blocks(
 ) -> Result<Placement, Memory>
     requires good { AreGoodBlocks blocks.now }
     requires fits { first_tall high blocks.now ≡ None }
-    requires behind { CanFollow press.now.behind }
+    requires last_block { CanFollow press.now.last_block }
     requires room { HasRoom plan.now high press.now blocks.now }
     ensures spots { IfOk result (λ f. f.spots ≡ next_spots plan.now high press.now blocks.now) }
-    ensures behind { IfOk result (λ f. f.behind ≡ next_last_block plan.now high press.now blocks.now) }
+    ensures last_block { IfOk result (λ f. f.last_block ≡ next_last_block plan.now high press.now blocks.now) }
     ensures within { IfOk result (λ f. AreWithin high blocks.now f.spots) }
-    ensures follows { IfOk result (λ f. IsLoose blocks.now → CanFollow f.behind) }
+    ensures follows { IfOk result (λ f. IsLoose blocks.now → CanFollow f.last_block) }
 {
     match plan {
-        PagePlan::Filled => fill_after(alloc, high, press.behind, blocks),
+        PagePlan::Filled => fill_after(alloc, high, press.last_block, blocks),
         PagePlan::At(spots) => {
             let here = &spots.as_slice()[press.put..press.put + blocks.len()];
             let spots = Row::from_slice(alloc, here)?;
             Ok(Placement {
                 spots,
-                behind: None,
+                last_block: None,
             })
         }
     }
@@ -200,7 +200,7 @@ pub fn add_outcomes(
     let spots = filled.spots.as_slice();
     let placed = place_outcomes(alloc, press.begun, outcomes, spots)?;
     press.begun = begun_after(press.begun, spots)?;
-    press.behind = filled.behind;
+    press.last_block = filled.last_block;
     press.put = put;
     Ok(placed)
 }

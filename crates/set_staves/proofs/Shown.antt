@@ -151,8 +151,9 @@ each_set at (r ∷ ranks) below =
 anchored_by : (at : List ℤ) (k r : ℕ) (ranks : List ℕ) (b : Bool)
     → (k == r) ≡ b → (IsTrue (list_any (λ r. k == r) ranks) → Contains (map (x_at at) ranks) (x_at at k))
     → IsTrue (b || list_any (λ r. k == r) ranks) → Contains (x_at at r ∷ map (x_at at) ranks) (x_at at k)
-anchored_by at k r ranks true same behind has = (0, omega arith, ap (x_at at) (sym (eqb-true k r same)))
-anchored_by at k r ranks false other behind has = let more = behind has in (suc more.0, omega (arith, more.1), more.2)
+anchored_by at k r ranks true same following has = (0, omega arith, ap (x_at at) (sym (eqb-true k r same)))
+anchored_by at k r ranks false other following has =
+    let more = following has in (suc more.0, omega (arith, more.1), more.2)
 
 anchored : (at : List ℤ) (k : ℕ) (ranks : List ℕ)
     → IsTrue (list_any (λ r. k == r) ranks) → Contains (map (x_at at) ranks) (x_at at k)

@@ -11,10 +11,12 @@ loop-s-preserved c =
     elim c.if-is_sound.branch [
       | then-is_sound w ↦
           let sound : is_sound s.step ≡ true = cc in
-          step_on c.args.behind.now c.loop-s.s-index c.loop-s.left c.if-is_sound.left s _ c.loop-s-test.true c.s-item.is
+          step_on c.args.following.now c.loop-s.s-index c.loop-s.left c.if-is_sound.left s _ c.loop-s-test.true
+          c.s-item.is
           on (simp sound (omega arith)) c.loop-s.invariant
       | else-is_sound w ↦
           let sound : is_sound s.step ≡ false = cc in
-          step_on c.args.behind.now c.loop-s.s-index c.loop-s.left c.if-is_sound.left s _ c.loop-s-test.true c.s-item.is
+          step_on c.args.following.now c.loop-s.s-index c.loop-s.left c.if-is_sound.left s _ c.loop-s-test.true
+          c.s-item.is
           on (simp sound (omega arith)) c.loop-s.invariant
     ]

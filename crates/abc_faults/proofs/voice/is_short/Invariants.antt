@@ -6,5 +6,6 @@ use Rattle.abc_faults.proofs.voice.is_short.Given as goal
 
 abbrev pub invariant-loop-s : goal.invariant-loop-s
 invariant-loop-s l =
-    nat_lt (count_by (λ s. is_sound s.step) (before_first (λ s. ends_tuplets s.step) (drop l.s-index l.behind))) l.left
-    ≡ nat_lt (count_by (λ s. is_sound s.step) (before_first (λ s. ends_tuplets s.step) l.behind)) l.r
+    nat_lt (count_by (λ s. is_sound s.step) (before_first (λ s. ends_tuplets s.step) (drop l.s-index l.following)))
+    l.left
+    ≡ nat_lt (count_by (λ s. is_sound s.step) (before_first (λ s. ends_tuplets s.step) l.following)) l.r

@@ -1,6 +1,6 @@
 use Rattle.std.proofs.Common.{[], arith, length, ◌<◌}
 use Rattle.abc_items.specs.Body.{no_lines}
-use Rattle.abc_items.proofs.Laws.{reads_nothing, lines_more, lines_stop, size_behind}
+use Rattle.abc_items.proofs.Laws.{reads_nothing, lines_more, lines_stop, size_after}
 use Rattle.abc_items.proofs.body.read_lines.Goals as goal
 
 pub loop-line-init : goal.loop-line-init
@@ -19,7 +19,7 @@ loop-line-preserved c =
           c.loop-line.body c.read_line.new.body inside c.line-item.is c.loop-line.invariant.reads c.in-Ok.ensures.reads;
       good = c.in-Ok.ensures.good;
       small =
-          (size_behind c.args.lines.now c.loop-line.line-index c.line-item.result inside c.line-item.is
+          (size_after c.args.lines.now c.loop-line.line-index c.line-item.result inside c.line-item.is
           c.loop-line.invariant.small).1;
     }
 

@@ -9,7 +9,8 @@ use Rattle.abc_items.proofs.body.read_music_line.Goals as goal
 pub returns-in-Err-clause-stops : goal.returns-in-Err-clause-stops
 returns-in-Err-clause-stops c =
     part_stops c.args.breaks c.args.line.now c.args.body.now c.loop-part.place c.loop-part.body
-    c.loop-part.invariant.stage c.in_ok-part.part.tokens c.in_ok-part.part.behind c.in-Err.e c.in_ok-part.ensures.part
+    c.loop-part.invariant.stage c.in_ok-part.part.tokens c.in_ok-part.part.following c.in-Err.e
+    c.in_ok-part.ensures.part
     c.in-Err.ensures.stops
 
 pub loop-part-preserved : goal.loop-part-preserved

@@ -2,7 +2,7 @@ use Rattle.std.proofs.Common.{◌≡◌, ◌∷◌, arith, rules, None, Some, le
 use Rattle.abc_pieces.specs.Reading.{token_of}
 use Rattle.abc_music.specs.declared.token.LineRest.{LineRest}
 use Rattle.abc_music.specs.Tokens.{column}
-use Rattle.abc_music.proofs.Fronts.{good_part}
+use Rattle.abc_music.proofs.Prefixes.{good_part}
 use Rattle.abc_music.proofs.Line.{done_at, stuck_at, step, consumes, put_few}
 use Rattle.abc_music.proofs.reader.read_part.Goals as goal
 
@@ -18,9 +18,9 @@ returns-in_default-clause-good c =
 
 pub returns-in_default-piece_at-clause-part : goal.returns-in_default-piece_at-clause-part
 returns-in_default-piece_at-clause-part c =
-    let cut : c.pieces.place.rest.now ≡ c.in-Some.first.now ∷ c.in-Some.behind.now = search rules in
+    let cut : c.pieces.place.rest.now ≡ c.in-Some.first.now ∷ c.in-Some.following.now = search rules in
     stuck_at c.args.bang c.args.line.now c.args.place c.pieces.place c.pieces.tokens c.in-Some.first.now
-    c.in-Some.behind.now c.line_flaw-flaw.result c.fault_at.result c.pieces.invariant.leads cut
+    c.in-Some.following.now c.line_flaw-flaw.result c.fault_at.result c.pieces.invariant.leads cut
     c.in_default-piece_at.ensures.read c.line_flaw-flaw.ensures.flaw c.fault_at.ensures
 
 pub returns-in_default-piece_at-clause-good : goal.returns-in_default-piece_at-clause-good

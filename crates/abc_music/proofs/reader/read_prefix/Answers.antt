@@ -1,7 +1,7 @@
 use Rattle.{std.proofs.Common.{subst, sym, length}, abc_pieces.specs.declared.token.PieceBefore.TheVariants.{Other}}
 use Rattle.abc_music.specs.declared.token.LineRest.{LineRest}
 use Rattle.abc_music.specs.Tokens.{GivesTokensOf, GivesTokensFrom, PartOf}
-use Rattle.abc_music.proofs.GoodLaws.{good_front}
+use Rattle.abc_music.proofs.GoodLaws.{good_prefix}
 use Rattle.abc_music.proofs.Line.{read_more}
 use Rattle.abc_music.proofs.reader.read_prefix.Goals as goal
 
@@ -15,8 +15,8 @@ loop-tokens-preserved c =
       within = part.1;
     }
 
-pub returns-in-End-clause-front : goal.returns-in-End-clause-front
-returns-in-End-clause-front c =
+pub returns-in-End-clause-prefix : goal.returns-in-End-clause-prefix
+returns-in-End-clause-prefix c =
     let part : GivesTokensFrom c.args.bang c.args.line.now c.loop-tokens.place c.in_ok-part.part.tokens c.in-End.fault =
     rw c.in-End.is at c.in_ok-part.ensures.part in
     subst (λ us. GivesTokensOf c.args.bang c.args.line.now us c.in-End.fault) (sym c.in_ok-append.ensures.ok)
@@ -24,5 +24,6 @@ returns-in-End-clause-front c =
 
 pub returns-in-End-clause-good : goal.returns-in-End-clause-good
 returns-in-End-clause-good c =
-    let front = returns-in-End-clause-front c in
-    good_front c.args.bang (length c.args.line.now.text) Other 0 c.args.line.now.text c.append.new.self front.0 front.1
+    let prefix = returns-in-End-clause-prefix c in
+    good_prefix c.args.bang (length c.args.line.now.text) Other 0 c.args.line.now.text c.append.new.self prefix.0
+    prefix.1

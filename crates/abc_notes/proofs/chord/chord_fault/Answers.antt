@@ -16,12 +16,12 @@ pub returns-in-Err-clause-fault : goal.returns-in-Err-clause-fault
 returns-in-Err-clause-fault c =
     let bracket = sym c.begins_with_bracket.ensures ∙ c.if-begins_with_bracket.true in
     chord-headless c.args.bang c.args.bytes.now c.requires.none
-    (ap (begins is_bracket) (sym c.behind_parts.ensures) ∙ bracket)
+    (ap (begins is_bracket) (sym c.after_parts.ensures) ∙ bracket)
 
 pub returns-in-Err-2-clause-fault : goal.returns-in-Err-2-clause-fault
 returns-in-Err-2-clause-fault c =
     let some = eqb-false _ 0 (sym c.is_empty.ensures ∙ c.if-is_empty.false) in
-    let other = ap (begins is_bracket) (sym c.behind_parts.ensures)
+    let other = ap (begins is_bracket) (sym c.after_parts.ensures)
     ∙ sym c.begins_with_bracket.ensures
     ∙ c.if-begins_with_bracket.false in
     chord-flawed c.args.bang c.args.bytes.now _ _ c.in-Err.field-0 c.bracketed.ensures.read some c.in-Err.ensures.0

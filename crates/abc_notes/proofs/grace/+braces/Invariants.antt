@@ -5,8 +5,8 @@ use Rattle.abc_notes.proofs.grace.+braces.Given as goal
 abbrev pub decreases-brace_at : goal.decreases-brace_at
 decreases-brace_at l = 4 * length l.bytes.now + 3
 
-abbrev pub decreases-brace_behind_chords : goal.decreases-brace_behind_chords
-decreases-brace_behind_chords l = 4 * length l.inside.now + 4
+abbrev pub decreases-brace_after_chords : goal.decreases-brace_after_chords
+decreases-brace_after_chords l = 4 * length l.inside.now + 4
 
 abbrev pub decreases-brace_between : goal.decreases-brace_between
 decreases-brace_between l = 4 * size_of (option_map (λ x. x.now) l.bracket) + 1
@@ -26,9 +26,9 @@ invariant-brace_at-parts l = SeekingBrace l.bang l.bytes (option_map (λ x. x.no
 abbrev pub decreases-brace_at-parts : goal.decreases-brace_at-parts
 decreases-brace_at-parts l = length l.rest
 
-abbrev pub invariant-brace_behind_chords-parts : goal.invariant-brace_behind_chords-parts
-invariant-brace_behind_chords-parts l =
+abbrev pub invariant-brace_after_chords-parts : goal.invariant-brace_after_chords-parts
+invariant-brace_after_chords-parts l =
     Passing l.bang l.head l.inside (option_map (λ x. x.now) l.bracket) (option_map (λ x. x.now) l.last) l.rest
 
-abbrev pub decreases-brace_behind_chords-parts : goal.decreases-brace_behind_chords-parts
-decreases-brace_behind_chords-parts l = length l.rest
+abbrev pub decreases-brace_after_chords-parts : goal.decreases-brace_after_chords-parts
+decreases-brace_after_chords-parts l = length l.rest

@@ -12,9 +12,9 @@ sign_parts : (first : InForce) (steps : Steps) (i : ℕ) (at : PlacedStep) → i
     ≡ tree_items_of (state_at first (reverse (take i steps))) (reverse (take i steps)) at (drop (i + 1) steps) at.step
     ++ signs first (reverse (take (i + 1) steps)) (drop (i + 1) steps)
 sign_parts first steps i at less is =
-    let before = reverse (take i steps) in let behind = drop (i + 1) steps in
+    let before = reverse (take i steps) in let following = drop (i + 1) steps in
     ap (signs first before) (at_front steps i at less is)
-    ∙ ap (λ z. tree_items_of (state_at first before) before at behind at.step ++ signs first z behind)
+    ∙ ap (λ z. tree_items_of (state_at first before) before at following at.step ++ signs first z following)
     (sym (nearest steps i at less is))
 
 pub loop-i-init : goal.loop-i-init
@@ -27,7 +27,7 @@ loop-i-preserved c =
     let i = c.loop-i.i in
     let at = c.index-steps-i.result in
     let before = reverse (take i steps) in
-    let behind = drop (i + 1) steps in
+    let following = drop (i + 1) steps in
     let near = nearest steps i at c.loop-i-test.true c.index-steps-i.is in
     let judged = step_so_far first steps i c.loop-i-test.true c.index-steps-i.is c.loop-i.invariant.place
     c.split_at.ensures.front
@@ -38,7 +38,7 @@ loop-i-preserved c =
       judged = rw near judged.0;
       kept = λ whole.
           let kept = c.in_ok-keep.ensures whole in
-          let own_signs = tree_items_of (state_at first before) before at behind at.step in
+          let own_signs = tree_items_of (state_at first before) before at following at.step in
           let is_put : c.keep.new.kept.signs ≡ c.loop-i.kept.signs ++ own_signs =
           cc (kept.1, c.loop-i.invariant.place, c.split_at.ensures.front, c.split_at-in-loop-i.ensures.back) in
           part_more own_signs _ (signs first before (drop i steps)) c.loop-i.kept.signs _ _
@@ -55,11 +55,11 @@ loop-i-preserved-then-is_idle c =
     let steps = c.as_slice-steps.result.now in
     let i = c.loop-i.i in
     let at = c.index-steps-i.result in
-    let behind = drop (i + 1) steps in let near = nearest steps i at c.loop-i-test.true c.index-steps-i.is in
+    let following = drop (i + 1) steps in let near = nearest steps i at c.loop-i-test.true c.index-steps-i.is in
     let test : is_idle at.step ≡ true = sym c.is_idle.ensures ∙ c.if-is_idle.true in
-    let idle = idle_at first (reverse (take i steps)) at behind test in
+    let idle = idle_at first (reverse (take i steps)) at following test in
     let signs_are = sign_parts first steps i at c.loop-i-test.true c.index-steps-i.is
-    ∙ ap (λ z. z ++ signs first (reverse (take (i + 1) steps)) behind) idle.signs in
+    ∙ ap (λ z. z ++ signs first (reverse (take (i + 1) steps)) following) idle.signs in
     record {
       judged = idle_so_far first steps i at c.loop-i-test.true c.index-steps-i.is test c.loop-i.invariant.judged;
       kept = λ whole. ap (λ z. c.loop-i.kept.signs ++ z) (sym signs_are) ∙ c.loop-i.invariant.kept whole;

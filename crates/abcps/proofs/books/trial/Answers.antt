@@ -20,7 +20,7 @@ returns g c =
     let tried = c.in-Ok-trial_of.ensures in
     let line : c.as_slice.result.now ≡ trial_text c.in-Ok-trial_of.trial = search rules in
     answer_of (Command.Trial c.args.tunes c.args.flow c.args.jobs.count c.args.even) []
-    (λ called. called ≡ record { page = c.as_slice.result.now; told = []; status = Status.Done })
+    (λ called. called ≡ record { page = c.as_slice.result.now; reported = []; status = Status.Done })
     (λ called is.
     tries c.args.tunes (unmoved c.args.flow) c.args.even c.in-Ok.text paper outcomes called c.in-Ok.ensures.value
     c.in-Ok-set_text.ensures.paper c.in-Ok-set_text.ensures.set
@@ -28,7 +28,7 @@ returns g c =
       plan = tried.0;
       planned = tried.1;
       called =
-          is ∙ ap {B = Called} (λ page. record { page = page; told = []; status = Status.Done })
+          is ∙ ap {B = Called} (λ page. record { page = page; reported = []; status = Status.Done })
           (line ∙ ap trial_text tried.2);
     }))
     _ _ c.write_both.result c.write_both.ensures

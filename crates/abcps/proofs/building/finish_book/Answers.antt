@@ -6,7 +6,7 @@ use Rattle.abcps.specs.Outcome.{WroteWhole}
 use Rattle.abcps.specs.Progress.{IsFinished, StoppedAfterPrefix, rest_text, status_if}
 use Rattle.abcps.specs.Status.{status_after}
 use Rattle.abcps.specs.declared.status.Status.{Status}
-use Rattle.abcps.proofs.Sent.{memory_first, step_stopped, stopped_behind, stopped_longer, stream, took_behind}
+use Rattle.abcps.proofs.Sent.{memory_first, step_stopped, stopped_after, stopped_longer, stream, took_after}
 use Rattle.abcps.proofs.building.finish_book.Goals as goal
 
 pub returns-in_err-put_ending : goal.returns-in_err-put_ending
@@ -45,7 +45,7 @@ returns-in_err-finish g c plan paper outcomes running =
     let stopped = step_stopped (Unit {0}) _ _ _ _ _ c.in_err-finish.field-0.0 c.in_err-finish.ensures.wrote
     c.in_err-finish.ensures.counts in
     subst (λ r. IsFinished outcomes begun o r) (sym is)
-    (stopped_behind (g.O.Sink.taken c.args.output.now) (g.O.Sink.taken c.send_pages.new.sink)
+    (stopped_after (g.O.Sink.taken c.args.output.now) (g.O.Sink.taken c.send_pages.new.sink)
     (g.O.Sink.taken c.finish.new.sink) (g.O.Sink.faults c.args.output.now) (g.O.Sink.faults c.send_pages.new.sink)
     (g.O.Sink.faults c.finish.new.sink) (ending begun) (rw text at c.in_ok-writer.ensures.wrote)
     c.in_ok-writer.ensures.counts why (trailer begun)
@@ -58,13 +58,13 @@ returns g c plan paper outcomes running =
     let pages : c.in_ok-writer.writer.pages ≡ begun = search rules in
     let rest = stream (g.O.Sink.taken c.send_pages.new.sink) (g.O.Sink.taken c.finish.new.sink)
     (g.O.Sink.faults c.send_pages.new.sink) (g.O.Sink.faults c.finish.new.sink) in (
-      took_behind (g.O.Sink.taken c.args.output.now) (g.O.Sink.taken c.send_pages.new.sink)
+      took_after (g.O.Sink.taken c.args.output.now) (g.O.Sink.taken c.send_pages.new.sink)
           (g.O.Sink.taken c.finish.new.sink) (g.O.Sink.faults c.args.output.now)
           (g.O.Sink.faults c.send_pages.new.sink) (g.O.Sink.faults c.finish.new.sink) (ending begun)
           (rw text at c.in_ok-writer.ensures.wrote) c.in_ok-writer.ensures.counts (trailer begun)
           (subst (λ n. WroteWhole rest (trailer n)) pages
           (c.in_ok-finish.ensures.wrote, c.in_ok-finish.ensures.counts)),
-      running.told,
+      running.reported,
       c.status_if.ensures.value ∙ ap status_if running.refused,
       search rules,
     )

@@ -4,7 +4,7 @@ use Rattle.std.specs.Vec.Iter.{into_iter_items}
 use Rattle.ps_write.specs.declared.steps.DocWriter.{DocWriter}
 use Rattle.abcps.specs.Progress.{StoppedAfterPrefix, WroteOrStopped}
 use Rattle.abcps.specs.Status.{status_after}
-use Rattle.abcps.proofs.Sent.{step_stopped, stopped_behind, stopped_longer, stream, took_behind}
+use Rattle.abcps.proofs.Sent.{step_stopped, stopped_after, stopped_longer, stream, took_after}
 use Rattle.abcps.proofs.building.send_all.Goals as goal
 
 pub returns-in_err-writer-clause-wrote : goal.returns-in_err-writer-clause-wrote
@@ -23,7 +23,7 @@ returns-in_err-writer-clause-wrote g c =
     ∙ ap (λ l. flat_map (λ text. text) l) same in
     subst (λ r. WroteOrStopped o (flat_map (λ text. text) c.args.texts) r) (sym is)
     (subst (λ t. StoppedAfterPrefix why o t) all
-    (stopped_behind (g.O.Sink.taken c.args.output.now) (g.O.Sink.taken c.loop-text.output)
+    (stopped_after (g.O.Sink.taken c.args.output.now) (g.O.Sink.taken c.loop-text.output)
     (g.O.Sink.taken c.send_pages.new.sink) (g.O.Sink.faults c.args.output.now) (g.O.Sink.faults c.loop-text.output)
     (g.O.Sink.faults c.send_pages.new.sink) sent.0 sent.2.0 sent.2.1 why (c.in-Some.text ++ later)
     (stopped_longer why
@@ -41,7 +41,7 @@ loop-text-preserved g c =
         sent.0 ++ text,
         append_assoc sent.0 text later
             ∙ ap (λ l. sent.0 ++ flat_map (λ text. text) l) (sym c.in-Some.ensures.steps.0) ∙ sent.1,
-        took_behind (g.O.Sink.taken c.args.output.now) (g.O.Sink.taken c.loop-text.output)
+        took_after (g.O.Sink.taken c.args.output.now) (g.O.Sink.taken c.loop-text.output)
             (g.O.Sink.taken c.send_pages.new.sink) (g.O.Sink.faults c.args.output.now)
             (g.O.Sink.faults c.loop-text.output) (g.O.Sink.faults c.send_pages.new.sink) sent.0 sent.2.0 sent.2.1 text
             (rw c.as_slice.ensures at c.in_ok-writer.ensures.wrote, c.in_ok-writer.ensures.counts),

@@ -4,13 +4,13 @@ use Rattle.abcps.proofs.building.send_all.Given as goal
 
 abbrev pub invariant-loop-text : goal.invariant-loop-text
 invariant-loop-text g l = record {
-  sent : (front : List ℕ)
-      × (front ++ flat_map (λ text. text) (into_iter_items l.text-iterator)
+  sent : (prefix : List ℕ)
+      × (prefix ++ flat_map (λ text. text) (into_iter_items l.text-iterator)
       ≡ flat_map (λ text. text) (into_iter_items l.initial.text-iterator))
       × WroteWhole
       (stream (g.O.Sink.taken l.fn.output) (g.O.Sink.taken l.output) (g.O.Sink.faults l.fn.output)
       (g.O.Sink.faults l.output))
-      front;
+      prefix;
   count : into_iter_len l.text-iterator ≡ length (into_iter_items l.text-iterator);
   pages : l.writer.pages ≡ 0;
 }

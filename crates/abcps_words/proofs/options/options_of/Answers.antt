@@ -19,12 +19,12 @@ pub returns-in_err-options : goal.returns-in_err-options
 returns-in_err-options c = rw c.from_residual-in_err-options.ensures (λ flags is.
     let took = c.in_ok-flag.ensures in
     repeated (map string_bytes c.args.words.now) (map string_bytes c.loop-rest.rest.now)
-    (map string_bytes c.in_ok-flag.behind.now) c.loop-rest.options c.in_ok-flag.flag c.loop-rest.invariant
+    (map string_bytes c.in_ok-flag.following.now) c.loop-rest.options c.in_ok-flag.flag c.loop-rest.invariant
     took.0 took.1 (sym c.with.ensures ∙ c.in_err-options.was) flags is)
 
 pub loop-rest-preserved : goal.loop-rest-preserved
 loop-rest-preserved c =
     let took = c.in_ok-flag.ensures in
-    one_more _ (map string_bytes c.loop-rest.rest.now) (map string_bytes c.in_ok-flag.behind.now) c.loop-rest.options
+    one_more _ (map string_bytes c.loop-rest.rest.now) (map string_bytes c.in_ok-flag.following.now) c.loop-rest.options
     c.in_ok-options.options c.in_ok-flag.flag c.loop-rest.invariant
     took.0 took.1 (sym c.with.ensures ∙ c.in_ok-options.was)

@@ -1,5 +1,5 @@
 use Rattle.std.proofs.Common.{◌≡◌, ◌∷◌, codes, string_bytes, map, sym, ◌∙◌, ap}
-use Rattle.abcps_words.proofs.Fronts.{no_half_steps, no_jobs}
+use Rattle.abcps_words.proofs.Prefixes.{no_half_steps, no_jobs}
 use Rattle.abcps_words.proofs.options.take_flag.Goals as goal
 
 pub returns-in_err-jobs : goal.returns-in_err-jobs

@@ -10,7 +10,8 @@ pub returns-in_default-2-clause-cause : goal.returns-in_default-2-clause-cause
 returns-in_default-2-clause-cause c =
     let l = c.loop-raw in let cut = c.in-Some.ensures in
     first_fault c.args.bytes.now l.stage l.judged l.rest.now l.line l.invariant.reading
-    (stuck_at_line c.args.bytes.now l.stage l.judged c.step.new.judged l.rest.now c.in-Some.raw.now c.in-Some.behind.now
+    (stuck_at_line c.args.bytes.now l.stage l.judged c.step.new.judged l.rest.now c.in-Some.raw.now
+    c.in-Some.following.now
     l.line l.invariant.reading cut.0 cut.1
     (λ p s.
     subst (λ o. IsStep p c.in-Some.raw.now c.step.new.judged o) c.in_default-2.is (c.in_ok-next.ensures.step p s)))
@@ -19,13 +20,13 @@ pub loop-raw-preserved : goal.loop-raw-preserved
 loop-raw-preserved c =
     let l = c.loop-raw in let cut = c.in-Some.ensures in
     let n = ap length cut.0 in
-    let k = length-append c.in-Some.raw.now (10 ∷ c.in-Some.behind.now) in
+    let k = length-append c.in-Some.raw.now (10 ∷ c.in-Some.following.now) in
     let room = l.invariant.room in
     record {
       sound = subst (λ o. IfSome o IsSound) c.in-Some-2.is c.in_ok-next.ensures.sound;
       reading =
           reading_more c.args.bytes.now l.stage c.in-Some-2.next l.judged c.step.new.judged l.rest.now c.in-Some.raw.now
-          c.in-Some.behind.now l.line
+          c.in-Some.following.now l.line
           l.invariant.reading cut.0 (λ p s.
           subst (λ o. IsStep p c.in-Some.raw.now c.step.new.judged o) c.in-Some-2.is (c.in_ok-next.ensures.step p s));
       room = omega (arith, n, k, room);

@@ -1,5 +1,5 @@
 use Rattle.std.{proofs.Common.{◌∙◌, None, ap, subst, sym, arith}, specs.List.list_all}
-use Rattle.lay_columns.{specs.Measures.{AreFurther, begins_plain}, proofs.Behind.plain_further}
+use Rattle.lay_columns.{specs.Measures.{AreFurther, begins_plain}, proofs.Following.plain_further}
 use Rattle.lay_columns.proofs.further.further_columns.Goals as goal
 use Rattle.lay_columns.proofs.further.further_columns.Goals.{then-m-eq0-via-then-m-eq0}
 use Rattle.lay_columns.proofs.further.further_columns.Goals.{then-m-eq0-via-else-m-eq0+then-begin_plain}

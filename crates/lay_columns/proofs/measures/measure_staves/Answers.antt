@@ -21,7 +21,7 @@ staves-preserved c =
     let more = rest_from (n + 1) rest in
     let fewer = verses_drop (n + 1) rest in
     let few = c.staves.invariant.verses in
-    let behind = ap verses_on more in record {
+    let following = ap verses_on more in record {
       staves =
           group_turn is_drawn_lower
           (measure_staff c.args.begins c.args.frame.now.keys.now c.args.frame.now.lengths.now c.args.frame.now.a) rest n
@@ -35,7 +35,7 @@ staves-preserved c =
       good =
           subst (All (λ v. AreGoodMeasures v.measures)) (sym more)
           (All-drop (λ v. AreGoodMeasures v.measures) (n + 1) rest c.staves.invariant.good);
-      verses = omega (arith, fewer, few, behind);
+      verses = omega (arith, fewer, few, following);
       shorter =
           let less = ap (λ vs. length vs) more in
           let left = length-drop (n + 1) rest in

@@ -17,12 +17,12 @@ staves-preserved c =
     let fewer = verses_drop (n + 1) rest in
     let few = c.staves.invariant.few in
     let more = rest_from (n + 1) rest in
-    let behind = ap verses_on more in record {
+    let following = ap verses_on more in record {
       verses =
           group_turn is_drawn_lower verses_on rest n c.staves.verses c.push.new.self _ c.in-len1-up.len_at_least
           c.lower_count-count.ensures.value
           (c.in_ok-push.ensures.ok ∙ ap (λ n. c.staves.verses ++ n ∷ []) c.verses_on.ensures) c.staves.invariant.verses;
-      few = omega (arith, fewer, few, behind);
+      few = omega (arith, fewer, few, following);
       shorter =
           let less = ap (λ vs. length vs) more in
           let left = length-drop (n + 1) rest in

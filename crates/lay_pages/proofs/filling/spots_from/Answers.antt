@@ -5,7 +5,7 @@ use Rattle.lay_pages.proofs.filling.spots_from.Goals as goal
 pub placing-init : goal.placing-init
 placing-init c = record {
   value = search rules;
-  behind = refl;
+  last_block = refl;
   good = c.requires.good;
   page = c.requires.few;
   ready = record { fits = c.requires.room; number = 0; tied = false; none = c.requires.fits };
@@ -25,9 +25,10 @@ placing-preserved c =
           value_more c.args.high c.placing.place c.next_place-place.result c.in-Some.block.now c.placing.rest.now
           c.in-Some.more.now c.placing.spots c.push.new.self _ c.spot_at.result cut c.in_ok-push.ensures.ok
           c.spot_at.ensures here c.placing.invariant.value;
-      behind =
+      last_block =
           standing_more c.args.high c.placing.place c.next_place-place.result c.in-Some.block.now c.placing.rest.now
-          c.in-Some.more.now _ cut (some_of c.in-Some.more.now c.if-is_empty.ensures) here c.placing.invariant.behind;
+          c.in-Some.more.now _ cut (some_of c.in-Some.more.now c.if-is_empty.ensures) here
+          c.placing.invariant.last_block;
       good = search rules;
       page = omega (arith, one, count, page, c.placing.invariant.page);
       ready =

@@ -6,7 +6,7 @@ use Rattle.lay_pages.proofs.filling.spots_from.Given as goal
 abbrev pub invariant-placing : goal.invariant-placing
 invariant-placing l = record {
   value : l.spots ++ spots_from l.high l.place l.rest ≡ spots_from l.high l.fn.first l.blocks;
-  behind : standing_from l.high l.place l.rest ≡ standing_from l.high l.fn.first l.blocks;
+  last_block : standing_from l.high l.place l.rest ≡ standing_from l.high l.fn.first l.blocks;
   good : AreGoodBlocks l.rest;
   page : l.place.page + length l.rest < 2 ^ 32;
   ready : IsReady l.high l.place l.rest;

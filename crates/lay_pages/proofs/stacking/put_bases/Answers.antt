@@ -2,7 +2,7 @@ use Rattle.std.proofs.Common.{◌≡◌, ◌+◌, ◌++◌, ◌∷◌, [], ◌�
 use Rattle.std.proofs.Common.{subst, arith, rules, to_z, of_z, to_z-of_z, w64}
 use Rattle.std.proofs.lemmas.Int.{ints}
 use Rattle.std.proofs.lemmas.Slice.Zip.{zip_turn}
-use Rattle.lay_pages.specs.Stacking.{above_base, below_base, bases_behind, bottom_behind, under_top}
+use Rattle.lay_pages.specs.Stacking.{above_base, below_base, bases_after, bottom_after, under_top}
 use Rattle.lay_pages.proofs.Under.{one_more}
 use Rattle.lay_pages.proofs.stacking.put_bases.Goals as goal
 
@@ -27,12 +27,12 @@ loop-staff-preserved c =
     (arith, ints, to_z-of_z, c.under_top.ensures) in
     let more = one_more c.args.staves.now c.args.gaps.now n c.loop-staff.bottom base low c.in-Some.staff.now
     c.in-Some.gap.now turn.0 turn.1 (turn.2 _) (turn.3 _) up down in
-    let rest = bases_behind low (drop (n + 1) c.args.staves.now) (drop (n + 1) c.args.gaps.now) in
+    let rest = bases_after low (drop (n + 1) c.args.staves.now) (drop (n + 1) c.args.gaps.now) in
     record {
       bases =
           subst (λ k.
-          c.push.new.self ++ bases_behind low (drop k c.args.staves.now) (drop k c.args.gaps.now)
-          ≡ c.args.bases.now ++ bases_behind c.args.bottom c.args.staves.now c.args.gaps.now)
+          c.push.new.self ++ bases_after low (drop k c.args.staves.now) (drop k c.args.gaps.now)
+          ≡ c.args.bases.now ++ bases_after c.args.bottom c.args.staves.now c.args.gaps.now)
           next
           (ap (λ t. t ++ rest) c.in_ok-push.ensures.ok
           ∙ append_assoc c.loop-staff.bases (to_z w64 (of_z w64 c.under_top.result) ∷ []) rest
@@ -41,8 +41,8 @@ loop-staff-preserved c =
           ∙ c.loop-staff.invariant.bases);
       bottom =
           subst (λ k.
-          bottom_behind low (drop k c.args.staves.now) (drop k c.args.gaps.now)
-          ≡ bottom_behind c.args.bottom c.args.staves.now c.args.gaps.now)
+          bottom_after low (drop k c.args.staves.now) (drop k c.args.gaps.now)
+          ≡ bottom_after c.args.bottom c.args.staves.now c.args.gaps.now)
           next
           (sym more.1 ∙ c.loop-staff.invariant.bottom);
       low = search (arith, rules, next);

@@ -6,7 +6,7 @@ use Rattle.lay_spans.specs.Columns.{measures_from, span_columns}
 use Rattle.lay_spans.specs.SpanList.{IsForce, IsCost}
 use Rattle.lay_spans.proofs.Adding.{columns_some}
 use Rattle.lay_spans.proofs.Fitting.{force_of, seen_as, still_above, never_stands}
-use Rattle.lay_spans.proofs.Growing.{placed_more, seen_more, costs_more, free_more, stops_at, stops_behind}
+use Rattle.lay_spans.proofs.Growing.{placed_more, seen_more, costs_more, free_more, stops_at, stops_after}
 use Rattle.lay_spans.proofs.rows.row_from.Goals.{After-as_slice-columns, After-greatest_force, In_ok-push}
 use Rattle.lay_spans.proofs.rows.row_from.Goals as goal
 
@@ -88,7 +88,7 @@ pub returns-then-marks-m : goal.returns-then-marks-m
 returns-then-marks-m g c =
     let b = (goal.at.returns-then-marks-m g c).After-as_slice-columns in
     let pushed = (goal.at.returns-then-marks-m g c).In_ok-push in
-    stops_behind g.C.Spaced.reach_of g.C.Spring.length_of c.args.gaps.now c.args.width c.args.starts.now
+    stops_after g.C.Spaced.reach_of g.C.Spring.length_of c.args.gaps.now c.args.width c.args.starts.now
     c.args.others.now (λ b. slice_index_or c.args.marks.now b false)
     c.args.a c.loop-m.m c.push.new.self (let l = c.loop-m-test.true in omega arith) (count g pushed)
     (let l = c.loop-m.invariant.count in omega arith)

@@ -1,6 +1,6 @@
 use Rattle.std.proofs.Common.{◌≡◌, Some, arith, subst, sym, ◌∙◌, w64}
 use Rattle.std.proofs.lemmas.Int.{ints, to_z-of_z}
-use Rattle.lay_springs.{specs.ReachView.TellsReach, proofs.{Clear.inside_more, Fronts.lone_told}}
+use Rattle.lay_springs.{specs.ReachView.TellsReach, proofs.{Clear.inside_more, Fronts.lone_known}}
 use Rattle.lay_springs.proofs.least.first_of.Goals as goal
 
 pub loop-lane-preserved : goal.loop-lane-preserved
@@ -20,7 +20,7 @@ loop-lane-preserved g c =
 
 pub returns-then-stand-lanes-clause-least : goal.returns-then-stand-lanes-clause-least
 returns-then-stand-lanes-clause-least g c = λ v begins inside.
-    let lone = lone_told c.in-OneLane.stand (g.C.Spaced.reach_of c.args.col.now)
+    let lone = lone_known c.in-OneLane.stand (g.C.Spaced.reach_of c.args.col.now)
     (subst (λ s. TellsReach s (g.C.Spaced.reach_of c.args.col.now)) c.in-OneLane.is c.stands-stands.ensures)
     (omega arith) in
     let left = inside c.in-OneLane.stand.lane c.in-OneLane.stand.reach c.if-stand-lanes.true lone.here in

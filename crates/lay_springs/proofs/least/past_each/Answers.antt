@@ -37,7 +37,7 @@ overflow_add-gaps c =
 pub returns-clause-clear : goal.returns-clause-clear
 returns-clause-clear c = λ lane s l e some. elim (cases_lt lane c.loop-lane.lane) [
   | inl before ↦ c.loop-lane.invariant.clear lane s before e some
-  | inr behind ↦
+  | inr following ↦
       let past : length c.args.row.now ≤ lane =
       let most = c.min-lane-end.ensures in let test = c.loop-lane-test.false in omega arith in
       absurd (none-some s (sym (none_past c.args.row.now lane past) ∙ e))

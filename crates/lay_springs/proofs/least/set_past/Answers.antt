@@ -1,6 +1,6 @@
 use Rattle.std.{proofs.{Common.{◌≡◌, ◌<◌, ◌∙◌, subst, pos, ◌+ℤ◌, to_z, of_z, w64, arith}, lemmas.Int.{ints, to_z-of_z}}}
 use Rattle.lay_springs.specs.ReachView.{IsLone, TellsReach}
-use Rattle.lay_springs.proofs.Fronts.{lone_clear, lone_noted, lone_told}
+use Rattle.lay_springs.proofs.Fronts.{lone_clear, lone_noted, lone_known}
 use Rattle.lay_springs.proofs.least.set_past.Goals.{After-from}
 use Rattle.lay_springs.proofs.least.set_past.Goals as goal
 
@@ -9,7 +9,7 @@ inside g c = omega (arith, c.if-lane-gaps.false, c.requires.lanes)
 
 lone : (g : _) (c : After-from g) → IsLone (g.C.Spaced.reach_of c.args.col.now) c.in-OneLane.stand
 lone g c =
-    lone_told c.in-OneLane.stand (g.C.Spaced.reach_of c.args.col.now)
+    lone_known c.in-OneLane.stand (g.C.Spaced.reach_of c.args.col.now)
     (subst (λ s. TellsReach s (g.C.Spaced.reach_of c.args.col.now)) c.in-OneLane.is c.stands.ensures) (inside g c)
 
 pub overflow_add-front : goal.overflow_add-front
@@ -43,13 +43,13 @@ returns-clause-noted g c =
     (lone g (goal.at.returns-clause-noted g c).After-from) (omega (arith, c.requires.room, c.requires.lanes))
     (omega (arith, c.requires.room, c.if-lane-gaps.false))
     (let begins = c.requires.begins.le in
-    let behind = c.past_end-at.ensures.behind (omega (arith, ints)) in
+    let following = c.past_end-at.ensures.following (omega (arith, ints)) in
     omega (arith, ints)))
 
 pub overflow_add-gaps : goal.overflow_add-gaps
 overflow_add-gaps g c =
     let few : c.in-OneLane.stand.lane < 4294967296 = omega (arith, c.if-lane-gaps.false, c.requires.lanes) in
-    let lone = lone_told c.in-OneLane.stand (g.C.Spaced.reach_of c.args.col.now)
+    let lone = lone_known c.in-OneLane.stand (g.C.Spaced.reach_of c.args.col.now)
     (subst (λ s. TellsReach s (g.C.Spaced.reach_of c.args.col.now)) c.in-OneLane.is c.stands.ensures) few in
     let near = rw lone.here at (g.met.C.Spaced.is_near c.args.col.now c.in-OneLane.stand.lane few) in
     let left = near.0 in

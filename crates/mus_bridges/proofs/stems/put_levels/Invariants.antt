@@ -4,5 +4,5 @@ use Rattle.mus_bridges.proofs.stems.put_levels.Given as goal
 
 abbrev pub invariant-loop-k : goal.invariant-loop-k
 invariant-loop-k l =
-    l.out ++ levels_from l.k (l.flags - l.k) l.p (map (beam_stem_at l.measure) l.behind)
-    ≡ l.fn.out ++ levels_from l.level (l.flags - l.level) l.p (map (beam_stem_at l.measure) l.behind)
+    l.out ++ levels_from l.k (l.flags - l.k) l.p (map (beam_stem_at l.measure) l.following)
+    ≡ l.fn.out ++ levels_from l.level (l.flags - l.level) l.p (map (beam_stem_at l.measure) l.following)

@@ -4,9 +4,9 @@ use Rattle.std.specs.List.{sum_by}
 use Rattle.mus_score.specs.Good.{weight}
 use Rattle.mus_score.specs.Times.{flats_of}
 use Rattle.mus_units.specs.Good.{IsGoodKey}
-use Rattle.mus_drawn.specs.Drawn.{opening_of, standing_behind}
+use Rattle.mus_drawn.specs.Drawn.{opening_of, staff_state_after}
 use Rattle.mus_drawn.specs.Good.{AllCanDraw}
-use Rattle.mus_drawn.proofs.GoodLaws.{key_behind, measure_good}
+use Rattle.mus_drawn.proofs.GoodLaws.{key_left_after, measure_good}
 use Rattle.mus_drawn.proofs.drawing.draw_measure.Goals as goal
 
 pub returns-clause-good : goal.returns-clause-good
@@ -25,9 +25,9 @@ pub returns-clause-now : goal.returns-clause-now
 returns-clause-now c =
     let each = c.in_ok-plans.ensures.each in let same = ap (λ fs. length fs) c.as_slice-3.ensures in
     c.in_ok-draw_events.ensures.now (omega (arith, each, same))
-    ∙ ap (standing_behind c.args.now.now) (c.in_ok-flats.ensures.flats ∙ ap flats_of c.as_slice.ensures)
+    ∙ ap (staff_state_after c.args.now.now) (c.in_ok-flats.ensures.flats ∙ ap flats_of c.as_slice.ensures)
 
 pub returns-clause-key : goal.returns-clause-key
 returns-clause-key c =
     subst (λ n. IsGoodKey n.key) (sym (returns-clause-now c))
-    (key_behind c.args.now.now (flats_of c.args.m.now.body) c.requires.key c.requires.events)
+    (key_left_after c.args.now.now (flats_of c.args.m.now.body) c.requires.key c.requires.events)

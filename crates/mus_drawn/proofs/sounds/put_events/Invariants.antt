@@ -1,12 +1,12 @@
 use Rattle.std.proofs.Common.{◌≡◌, ◌++◌, [], drop}
-use Rattle.mus_drawn.specs.{Drawn.standing_behind, Hearing.events_sounds, Hearing.heard_behind}
+use Rattle.mus_drawn.specs.{Drawn.staff_state_after, Hearing.events_sounds, Hearing.heard_after}
 use Rattle.mus_drawn.proofs.sounds.put_events.Given as goal
 
 abbrev pub invariant-loop-flat : goal.invariant-loop-flat
 invariant-loop-flat l = record {
   sounds : l.out ++ events_sounds l.voice l.spread l.now l.said l.before (drop l.flat-index l.flats)
       ≡ l.fn.out ++ events_sounds l.voice l.spread l.fn.now [] l.fn.before l.flats;
-  now : standing_behind l.now (drop l.flat-index l.flats) ≡ standing_behind l.fn.now l.flats;
-  before : heard_behind l.spread l.now l.said l.before (drop l.flat-index l.flats)
-      ≡ heard_behind l.spread l.fn.now [] l.fn.before l.flats;
+  now : staff_state_after l.now (drop l.flat-index l.flats) ≡ staff_state_after l.fn.now l.flats;
+  before : heard_after l.spread l.now l.said l.before (drop l.flat-index l.flats)
+      ≡ heard_after l.spread l.fn.now [] l.fn.before l.flats;
 }

@@ -4,7 +4,7 @@ use Rattle.mus_laid.proofs.printing.printed_within.Given as goal
 
 abbrev pub invariant-loop-byte : goal.invariant-loop-byte
 invariant-loop-byte l = record {
-  value : l.out ++ map printed_byte (drop l.byte-index l.front) ≡ map printed_byte l.front;
+  value : l.out ++ map printed_byte (drop l.byte-index l.prefix) ≡ map printed_byte l.prefix;
   printable : list_all is_printable l.out ≡ true;
   count : length l.out ≡ l.byte-index;
 }

@@ -10,12 +10,12 @@ loop-v-preserved c =
     let all = c.args.voices.now in let i = c.loop-v.v-index in let v = c.v-item.result in
     let cut : drop i all ≡ v ∷ drop (i + 1) all =
     drop_more all i v (omega arith) ∙ ap (λ w. w ∷ drop (i + 1) all) (sym c.v-item.is) in
-    let behind = map drawn_voice (drop (i + 1) all) in
+    let following = map drawn_voice (drop (i + 1) all) in
     record {
       voices =
-          ap (λ t. t ++ behind) c.in_ok-push.ensures.ok
-          ∙ append_assoc c.loop-v.drawn (c.in_ok-draw_voice.field-0 ∷ []) behind
-          ∙ ap (λ w. c.loop-v.drawn ++ w ∷ behind) c.in_ok-draw_voice.ensures.voice
+          ap (λ t. t ++ following) c.in_ok-push.ensures.ok
+          ∙ append_assoc c.loop-v.drawn (c.in_ok-draw_voice.field-0 ∷ []) following
+          ∙ ap (λ w. c.loop-v.drawn ++ w ∷ following) c.in_ok-draw_voice.ensures.voice
           ∙ ap (λ t. c.loop-v.drawn ++ map drawn_voice t) (sym cut)
           ∙ c.loop-v.invariant.voices;
       good =

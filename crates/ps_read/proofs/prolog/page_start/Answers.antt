@@ -15,5 +15,5 @@ returns c =
       least_scale = omega (arith, l40);
       greatest_scale = omega (arith, l150);
     })
-    (λ x y z lx ly lz e. c.in-Some.ensures.told x y z lx ly lz e)
+    (λ x y z lx ly lz e. c.in-Some.ensures.reported x y z lx ly lz e)
     c.in_ok-rest.ensures

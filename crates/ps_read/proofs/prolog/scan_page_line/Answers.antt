@@ -4,17 +4,17 @@ use Rattle.eng_lines.proofs.Words.{one_field, after_prefix}
 use Rattle.ps_read.proofs.Forms.{page_form, after_bottom}
 use Rattle.ps_read.proofs.prolog.scan_page_line.Goals as goal
 
-pub returns-in_err-rest-clause-told : goal.returns-in_err-rest-clause-told
-returns-in_err-rest-clause-told c l b s ll lb ls e = absurd (c.in_err-rest.ensures _ (e ∙ page_form l b s))
+pub returns-in_err-rest-clause-reported : goal.returns-in_err-rest-clause-reported
+returns-in_err-rest-clause-reported c l b s ll lb ls e = absurd (c.in_err-rest.ensures _ (e ∙ page_form l b s))
 
-pub returns-in_err-left-clause-told : goal.returns-in_err-left-clause-told
-returns-in_err-left-clause-told c l b s ll lb ls e =
+pub returns-in_err-left-clause-reported : goal.returns-in_err-left-clause-reported
+returns-in_err-left-clause-reported c l b s ll lb ls e =
     let t =
     after_prefix PAGE_START.now c.args.raw.now c.in_ok-rest.rest.now _ c.in_ok-rest.ensures (e ∙ page_form l b s) in
     absurd (c.in_err-left.ensures l _ ll t)
 
-pub returns-in_err-bottom-clause-told : goal.returns-in_err-bottom-clause-told
-returns-in_err-bottom-clause-told c l b s ll lb ls e =
+pub returns-in_err-bottom-clause-reported : goal.returns-in_err-bottom-clause-reported
+returns-in_err-bottom-clause-reported c l b s ll lb ls e =
     let r2 = codes "translate " ++ after_bottom s in
     let t =
     after_prefix PAGE_START.now c.args.raw.now c.in_ok-rest.rest.now _ c.in_ok-rest.ensures (e ∙ page_form l b s) in
@@ -23,8 +23,8 @@ returns-in_err-bottom-clause-told c l b s ll lb ls e =
     (omega (arith, x)) (omega (arith, ll)) x.0 t in
     absurd (c.in_err-bottom.ensures b r2 lb m.1)
 
-pub returns-in_err-rest-2-clause-told : goal.returns-in_err-rest-2-clause-told
-returns-in_err-rest-2-clause-told c l b s ll lb ls e =
+pub returns-in_err-rest-2-clause-reported : goal.returns-in_err-rest-2-clause-reported
+returns-in_err-rest-2-clause-reported c l b s ll lb ls e =
     let r2 = codes "translate " ++ after_bottom s in
     let t =
     after_prefix PAGE_START.now c.args.raw.now c.in_ok-rest.rest.now _ c.in_ok-rest.ensures (e ∙ page_form l b s) in
@@ -36,8 +36,8 @@ returns-in_err-rest-2-clause-told c l b s ll lb ls e =
     (omega (arith, lb)) y.0 m.1 in
     absurd (c.in_err-rest-2.ensures (after_bottom s) n.1)
 
-pub returns-in_err-scale-clause-told : goal.returns-in_err-scale-clause-told
-returns-in_err-scale-clause-told c l b s ll lb ls e =
+pub returns-in_err-scale-clause-reported : goal.returns-in_err-scale-clause-reported
+returns-in_err-scale-clause-reported c l b s ll lb ls e =
     let r2 = codes "translate " ++ after_bottom s in
     let t =
     after_prefix PAGE_START.now c.args.raw.now c.in_ok-rest.rest.now _ c.in_ok-rest.ensures (e ∙ page_form l b s) in
@@ -51,8 +51,8 @@ returns-in_err-scale-clause-told c l b s ll lb ls e =
     c.in_ok-rest-2.ensures n.1 in
     absurd (none-some s (c.in_err-scale.ensures s _ ls k))
 
-pub returns-clause-told : goal.returns-clause-told
-returns-clause-told c l b s ll lb ls e =
+pub returns-clause-reported : goal.returns-clause-reported
+returns-clause-reported c l b s ll lb ls e =
     let r2 = codes "translate " ++ after_bottom s in
     let t =
     after_prefix PAGE_START.now c.args.raw.now c.in_ok-rest.rest.now _ c.in_ok-rest.ensures (e ∙ page_form l b s) in

@@ -8,18 +8,18 @@ pub returns-in_default-2-clause-cause : goal.returns-in_default-2-clause-cause
 returns-in_default-2-clause-cause c =
     let l = c.loop-raw in let cut = c.in-Some.ensures in
     first_fault c.args.b.now l.place l.rest.now l.line l.invariant.reading
-    (stuck_at_line l.place l.rest.now c.in-Some.raw.now c.in-Some.behind.now cut.0 cut.1
+    (stuck_at_line l.place l.rest.now c.in-Some.raw.now c.in-Some.following.now cut.0 cut.1
     (subst (λ o. IsStep l.place c.in-Some.raw.now o) c.in_default-2.is c.in_ok-next.ensures))
 
 pub loop-raw-preserved : goal.loop-raw-preserved
 loop-raw-preserved c =
     let l = c.loop-raw in let cut = c.in-Some.ensures in
     let n = ap length cut.0 in
-    let k = length-append c.in-Some.raw.now (10 ∷ c.in-Some.behind.now) in
+    let k = length-append c.in-Some.raw.now (10 ∷ c.in-Some.following.now) in
     let room = l.invariant.room in
     record {
       reading =
-          reading_more c.args.b.now l.place c.in-Some-2.next l.rest.now c.in-Some.raw.now c.in-Some.behind.now l.line
+          reading_more c.args.b.now l.place c.in-Some-2.next l.rest.now c.in-Some.raw.now c.in-Some.following.now l.line
           l.invariant.reading cut.0 cut.1
           (subst (λ o. IsStep l.place c.in-Some.raw.now o) c.in-Some-2.is c.in_ok-next.ensures);
       room = omega (arith, n, k, room);

@@ -2,13 +2,13 @@ use Rattle.std.proofs.Common.{arith, ◌≡◌, ◌<◌, sym, ◌∙◌, ap, Som
 use Rattle.std.proofs.lemmas.Int.{to_z-of_z}
 use Rattle.std.specs.Fmt.{signed_decimal}
 use mir.Syntax.{w64}
-use Rattle.ps_text.proofs.Numbers.{fits, front_of_number, back_of_number, tail_of, no_back}
+use Rattle.ps_text.proofs.Numbers.{fits, prefix_of_number, back_of_number, tail_of, no_back}
 use Rattle.ps_text.proofs.scanning.take_number.Goals as goal
 
 pub returns-in_err-z-in-len1-up-clause-reads : goal.returns-in_err-z-in-len1-up-clause-reads
 returns-in_err-z-in-len1-up-clause-reads c z rest h =
     let f : c.split_at.result.0.now ≡ signed_decimal z =
-    rw (c.split_at.ensures.front, c.field_len.ensures.value) (front_of_number z rest c.args.bytes.now h) in
+    rw (c.split_at.ensures.front, c.field_len.ensures.value) (prefix_of_number z rest c.args.bytes.now h) in
     let r : c.parsed.result ≡ Some z = c.parsed.ensures z h.number f in
     let o = sym c.in_err-z-in-len1-up.was ∙ r in
     let x : ⊥ = cc in
@@ -24,7 +24,7 @@ returns-in-empty-clause-reads c z rest h =
 pub returns-in_ok-z-in-len1-up-clause-reads : goal.returns-in_ok-z-in-len1-up-clause-reads
 returns-in_ok-z-in-len1-up-clause-reads c z rest h =
     let f : c.split_at.result.0.now ≡ signed_decimal z =
-    rw (c.split_at.ensures.front, c.field_len.ensures.value) (front_of_number z rest c.args.bytes.now h) in
+    rw (c.split_at.ensures.front, c.field_len.ensures.value) (prefix_of_number z rest c.args.bytes.now h) in
     let b : c.split_at.result.1.now ≡ 32 ∷ rest =
     rw (c.split_at.ensures.back, c.field_len.ensures.value) (back_of_number z rest c.args.bytes.now h) in
     let r : c.parsed.result ≡ Some z = c.parsed.ensures z h.number f in

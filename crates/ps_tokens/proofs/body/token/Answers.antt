@@ -12,7 +12,7 @@ returns-in-Unread c = unread_at c.in-Unread.cause (rw c.in-Unread.is at c.in_ok-
 
 pub returns-in-Whole : goal.returns-in-Whole
 returns-in-Whole c =
-    procedure_at c.in-Opening.after.now c.in-Whole.behind.now c.in-Whole.tokens
+    procedure_at c.in-Opening.after.now c.in-Whole.following.now c.in-Whole.tokens
     (rw c.in-Opening.is at c.in_ok-t.ensures) (rw c.in-Whole.is at c.in_ok-tokens-in-Opening.ensures)
 
 pub returns-in-Not : goal.returns-in-Not

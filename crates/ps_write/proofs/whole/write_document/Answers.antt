@@ -1,8 +1,8 @@
 use Rattle.std.proofs.Common.{arith, ◌≡◌, ◌+◌, ◌<◌, ◌++◌, length, ap, subst, refl, rules, Err, get_or}
 use Rattle.ps_text.specs.Document.{document, numbered, document_page, trailer}
 use Rattle.ps_text.specs.Prolog.{prolog}
-use Rattle.ps_write.proofs.Fronts.{Sent, document_start, no_page, page_then, sent_all, sent_more, sent_none}
-use Rattle.ps_write.proofs.Fronts.{wrote_first, wrote_part}
+use Rattle.ps_write.proofs.Prefixes.{Sent, document_start, no_page, page_then, sent_all, sent_more, sent_none}
+use Rattle.ps_write.proofs.Prefixes.{wrote_first, wrote_part}
 use Rattle.ps_write.proofs.whole.write_document.Goals as goal
 
 pub returns-in_err-w-clause-wrote : goal.returns-in_err-w-clause-wrote

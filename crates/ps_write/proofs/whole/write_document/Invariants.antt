@@ -1,5 +1,5 @@
 use Rattle.std.proofs.Common.{◌≡◌, ◌+◌, ◌++◌, length, drop}
-use Rattle.{ps_text.specs.Document.{document, numbered, document_page, trailer}, ps_write.proofs.Fronts.{Sent}}
+use Rattle.{ps_text.specs.Document.{document, numbered, document_page, trailer}, ps_write.proofs.Prefixes.{Sent}}
 use Rattle.ps_write.proofs.whole.write_document.Given as goal
 
 abbrev pub invariant-loop-p : goal.invariant-loop-p

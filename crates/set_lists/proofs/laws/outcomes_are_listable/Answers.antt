@@ -1,4 +1,4 @@
-use Rattle.set_lists.proofs.Told as laws
+use Rattle.set_lists.proofs.Reported as laws
 use Rattle.set_lists.proofs.laws.outcomes_are_listable.Goals as goal
 
 pub returns : goal.returns

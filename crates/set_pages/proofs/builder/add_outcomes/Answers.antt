@@ -43,7 +43,7 @@ returns-clause-adds c before built texts are =
     built c.requires.outcomes
     (rw (high, blocks) at c.in_ok-filled.ensures.spots) (rw spots at (joined.0 ∙ parted.text _))
     (rw spots at c.in_ok-press.ensures.value) c.in_ok-press.ensures.few
-    (rw (high, blocks) at c.in_ok-filled.ensures.behind) (search rules) (search rules)
+    (rw (high, blocks) at c.in_ok-filled.ensures.last_block) (search rules) (search rules)
     (rw spots at (parted.drawn _ joined.1)) (subst AreGoodBlocks value c.in_ok-blocks.ensures.good)
 
 pub returns-clause-open : goal.returns-clause-open

@@ -2,7 +2,7 @@ use Rattle.std.proofs.Common.{rules, ◌≡◌, ◌≢◌, ◌∙◌, ◌<◌, �
 use Rattle.std.proofs.Common.{set, ap, sym, subst}
 use Rattle.lay_springs.specs.ReachView.{cut_reach, reach_in}
 use Rattle.lay_reaches.specs.Stands.{stored_reaches}
-use Rattle.lay_reaches.proofs.Lone.{lone_told, none_told, nowhere, others}
+use Rattle.lay_reaches.proofs.Lone.{lone_known, none_reported, nowhere, others}
 use Rattle.lay_reaches.proofs.stands.Reaches.stands.Goals as goal
 
 pub returns : goal.returns
@@ -15,7 +15,7 @@ returns c = λ other l.
     ∙ sym (ap stored_reaches c.in-Single.is)
     ∙ c.self.view_is in
     rw (lane, c.cut_reach-reach.ensures, ← is)
-    (lone_told single.lanes single.lane other reach
+    (lone_known single.lanes single.lane other reach
     (subst (λ o. IfSome o (λ r. single.lane < single.lanes)) c.in-Some.is single.inside))
 
 pub returns-in_default : goal.returns-in_default
@@ -25,7 +25,7 @@ returns-in_default c = λ other l.
     ap (set (replicate single.lanes None) single.lane) (sym c.in_default.is)
     ∙ sym (ap stored_reaches c.in-Single.is)
     ∙ c.self.view_is in
-    rw (← is) (none_told single.lanes single.lane other None (nowhere single.lanes single.lane other))
+    rw (← is) (none_reported single.lanes single.lane other None (nowhere single.lanes single.lane other))
 
 pub returns-in_default-try_from : goal.returns-in_default-try_from
 returns-in_default-try_from c = λ other l.
@@ -36,5 +36,5 @@ returns-in_default-try_from c = λ other l.
     ∙ sym (ap stored_reaches c.in-Single.is)
     ∙ c.self.view_is in
     rw (← is)
-    (none_told single.lanes single.lane other (Some c.in-Some.reach)
+    (none_reported single.lanes single.lane other (Some c.in-Some.reach)
     (others single.lanes single.lane other (Some c.in-Some.reach) far))

@@ -8,7 +8,7 @@ use Rattle.mus_units.specs.declared.key.Spread.{Spread}
 use Rattle.abcps_words.specs.declared.options.Flag.{Flag}
 use Rattle.abcps_words.specs.declared.command.Name.{Name}
 use Rattle.abcps_words.specs.declared.command.Command.{Command}
-use Rattle.abcps_words.specs.Words.{IsUpTo, IsMove, name_bytes, spread_word, front_of, HasTunes, flag_words, IsFlag}
+use Rattle.abcps_words.specs.Words.{IsUpTo, IsMove, name_bytes, spread_word, prefix_of, HasTunes, flag_words, IsFlag}
 
 -- the words begin with no number from 1 to the most
 abbrev pub LacksNumber : ℕ → List (List ℕ) → Type 0
@@ -61,7 +61,7 @@ no_half_steps word words is none f rest good e =
     clash (codes "--transpose") (word ∷ words) (flag_words f ++ rest) e is refl
 
 pub unnamed : (word : List ℕ) (words : List (List ℕ))
-    → ((n : Name) → word ≡ name_bytes n → ⊥) → (c : Command) (rest : List (List ℕ)) → word ∷ words ≡ front_of c ++ rest
+    → ((n : Name) → word ≡ name_bytes n → ⊥) → (c : Command) (rest : List (List ℕ)) → word ∷ words ≡ prefix_of c ++ rest
     → ⊥
 unnamed word words none (Command.Set flow jobs by even) rest e = none Name.Set (ap head_of e)
 unnamed word words none (Command.Systems flow table by) rest e = none Name.Systems (ap head_of e)
@@ -74,43 +74,43 @@ unnamed word words none (Command.Trial tunes flow jobs even) rest e = none Name.
 
 pub no_make : (word : List ℕ) (words : List (List ℕ))
     → word ≡ name_bytes Name.Make → LacksNumber 500 words → (c : Command) (rest : List (List ℕ)) → HasTunes c
-    → word ∷ words ≡ front_of c ++ rest
+    → word ∷ words ≡ prefix_of c ++ rest
     → ⊥
 no_make word words is none (Command.Make tunes) rest good e = none tunes rest good (ap tail_of e)
-no_make word words is none c rest good e = clash (codes "make") (word ∷ words) (front_of c ++ rest) e is refl
+no_make word words is none c rest good e = clash (codes "make") (word ∷ words) (prefix_of c ++ rest) e is refl
 
 pub no_trial : (word : List ℕ) (words : List (List ℕ))
     → word ≡ name_bytes Name.Trial → LacksNumber 500 words → (c : Command) (rest : List (List ℕ)) → HasTunes c
-    → word ∷ words ≡ front_of c ++ rest
+    → word ∷ words ≡ prefix_of c ++ rest
     → ⊥
 no_trial word words is none (Command.Trial tunes flow jobs even) rest good e = none tunes rest good (ap tail_of e)
-no_trial word words is none c rest good e = clash (codes "trial") (word ∷ words) (front_of c ++ rest) e is refl
+no_trial word words is none c rest good e = clash (codes "trial") (word ∷ words) (prefix_of c ++ rest) e is refl
 
 pub no_hear : (word : List ℕ) (words : List (List ℕ))
     → word ≡ name_bytes Name.Hear → LacksSpread words → (c : Command) (rest : List (List ℕ))
-    → word ∷ words ≡ front_of c ++ rest
+    → word ∷ words ≡ prefix_of c ++ rest
     → ⊥
 no_hear word words is none (Command.Hear spread) rest e = none spread rest (ap tail_of e)
-no_hear word words is none c rest e = clash (codes "hear") (word ∷ words) (front_of c ++ rest) e is refl
+no_hear word words is none c rest e = clash (codes "hear") (word ∷ words) (prefix_of c ++ rest) e is refl
 
 -- the leading words of a command are two if the name is make, trial or hear, and otherwise one
-abbrev front_length : List (List ℕ) → ℕ
-front_length words =
+abbrev prefix_length : List (List ℕ) → ℕ
+prefix_length words =
     if (key_of (head_of words) == 414) || (key_of (head_of words) == 432) || (key_of (head_of words) == 416) then 2
     else 1
 
-front_is : (c : Command) (rest : List (List ℕ))
-    → take (front_length (front_of c ++ rest)) (front_of c ++ rest) ≡ front_of c
-front_is (Command.Set flow jobs by even) rest = refl
-front_is c rest = refl
+prefix_is : (c : Command) (rest : List (List ℕ))
+    → take (prefix_length (prefix_of c ++ rest)) (prefix_of c ++ rest) ≡ prefix_of c
+prefix_is (Command.Set flow jobs by even) rest = refl
+prefix_is c rest = refl
 
-rest_is : (c : Command) (rest : List (List ℕ)) → drop (front_length (front_of c ++ rest)) (front_of c ++ rest) ≡ rest
+rest_is : (c : Command) (rest : List (List ℕ)) → drop (prefix_length (prefix_of c ++ rest)) (prefix_of c ++ rest) ≡ rest
 rest_is (Command.Set flow jobs by even) rest = refl
 rest_is c rest = refl
 
-pub same_front : (c d : Command) (xs ys : List (List ℕ))
-    → front_of c ++ xs ≡ front_of d ++ ys → (front_of c ≡ front_of d) × (xs ≡ ys)
-same_front c d xs ys e = (
-  sym (front_is c xs) ∙ ap (λ ws. take (front_length ws) ws) e ∙ front_is d ys,
-  sym (rest_is c xs) ∙ ap (λ ws. drop (front_length ws) ws) e ∙ rest_is d ys,
+pub same_prefix : (c d : Command) (xs ys : List (List ℕ))
+    → prefix_of c ++ xs ≡ prefix_of d ++ ys → (prefix_of c ≡ prefix_of d) × (xs ≡ ys)
+same_prefix c d xs ys e = (
+  sym (prefix_is c xs) ∙ ap (λ ws. take (prefix_length ws) ws) e ∙ prefix_is d ys,
+  sym (rest_is c xs) ∙ ap (λ ws. drop (prefix_length ws) ws) e ∙ rest_is d ys,
 )

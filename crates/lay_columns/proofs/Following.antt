@@ -29,7 +29,7 @@ use Rattle.mus_time.specs.Columns.{keys_called}
 use Rattle.mus_time.proofs.Called.{called_places, called_same}
 use Rattle.mus_marks.specs.declared.events.WordRoom.{WordRoom}
 use Rattle.mus_marks.specs.Events.{bar_part, change_part, changes_nothing, event_marks, events_marks, graces_part}
-use Rattle.mus_marks.specs.Events.{levels_behind, levels_in, measures_marks, note_part, note_rank, words_part}
+use Rattle.mus_marks.specs.Events.{levels_after, levels_in, measures_marks, note_part, note_rank, words_part}
 use Rattle.mus_marks.specs.Staff.{columns_part, head_part}
 use Rattle.mus_marks.specs.System.{drawn_staves, is_drawn_lower}
 use Rattle.mus_marks.proofs.Groups.{grouped_all}
@@ -39,7 +39,7 @@ use Rattle.lay_reaches.specs.declared.column.Column.{Column}
 use Rattle.lay_reaches.specs.Columns.{columns_of}
 use Rattle.lay_reaches.specs.Joining.{AreJoined, IsBelow, StavesJoin, moved}
 use Rattle.lay_reaches.specs.Reaches.{rank_of_mark as mark_rank}
-use Rattle.lay_reaches.proofs.JoinLaws.{behind_same, marks_join}
+use Rattle.lay_reaches.proofs.JoinLaws.{after_same, marks_join}
 use Rattle.lay_columns.specs.Measures.{AreFurther, AreMeasureColumns, begins_plain, first_plain, fixed_place, keys_in}
 use Rattle.lay_columns.specs.Measures.{measure_part, measure_staff, parts_from, staff_of_columns}
 use Rattle.lay_columns.proofs.HeadKeys.{ArePlain, one_plain, own_keys}
@@ -62,7 +62,7 @@ unfolding event_marks
 events_same keys place m [] h = refl
 events_same keys place m (e ∷ es) h =
     ap (λ t.
-    (t ++ graces_part keys m e ++ note_part keys m (levels_in e.plan 0 0) (levels_behind e.plan es) e
+    (t ++ graces_part keys m e ++ note_part keys m (levels_in e.plan 0 0) (levels_after e.plan es) e
     ++ words_part (note_rank keys m e) place e.flat)
     ++ events_marks keys place m false e.plan.group e.plan.flags es)
     (change_same keys m (is_lower e.seat) e h)
@@ -86,8 +86,8 @@ both_pass P Q (x ∷ xs) p q = ((p.0, q.0), both_pass P Q xs p.1 q.1)
 -- ---- the marks after the head
 module _ (lengths : List ℕ) (m n : ℕ) (some : 1 ≤ m) (within : m < n) (own : List ColumnKey)
     (rise : Rises (head_key m ∷ own)) where
-  abbrev Behind : DrawnVoice → Type 0
-  Behind v = HasMeasures lengths n v × (begins_plain m v ≡ true)
+  abbrev Following : DrawnVoice → Type 0
+  Following v = HasMeasures lengths n v × (begins_plain m v ≡ true)
 
   abbrev begun : List ColumnKey
   begun = head_key m ∷ own
@@ -111,7 +111,7 @@ module _ (lengths : List ℕ) (m n : ℕ) (some : 1 ≤ m) (within : m < n) (own
   no_first lower features = grind (arith, nat_tests, some)
 
   part_is : (first : ℕ) (v : DrawnVoice)
-      → Behind v
+      → Following v
       → measure_part true begun lengths m first v
       ≡ head_of first v ++ map (moved 1) (measure_part false own lengths m first v)
   unfolding columns_part
@@ -138,11 +138,11 @@ module _ (lengths : List ℕ) (m n : ℕ) (some : 1 ≤ m) (within : m < n) (own
       slots placed)
       ∙ ap (map (moved 1)) (sym (measures_laid own first lengths m false ds)))
 
-  part_behind : (first : ℕ) (v : DrawnVoice)
-      → Behind v
+  part_after : (first : ℕ) (v : DrawnVoice)
+      → Following v
       → AreJoined 1 (measure_part true begun lengths m first v) (head_of first v)
       (measure_part false own lengths m first v)
-  part_behind first v h =
+  part_after first v h =
       let more = measure_part false own lengths m first v in
       subst (λ t. AreJoined 1 t (head_of first v) more)
       (append-nil (head_of first v ++ map (moved 1) more) ∙ sym (part_is first v h))
@@ -151,37 +151,37 @@ module _ (lengths : List ℕ) (m n : ℕ) (some : 1 ≤ m) (within : m < n) (own
       (head_below (slice_range v.measures m (m + 1))))
       (All-nil (λ l. mark_rank l.mark ≡ None)))
 
-  parts_behind : (first : ℕ) (vs : List DrawnVoice)
-      → AllByRecursion Behind vs
+  parts_after : (first : ℕ) (vs : List DrawnVoice)
+      → AllByRecursion Following vs
       → AreJoined 1 (parts_from (measure_part true begun lengths m) first vs) (parts_from head_of first vs)
       (parts_from (measure_part false own lengths m) first vs)
-  parts_behind first [] h = record { front = λ rank lane l. refl; behind = λ rank lane. refl }
-  parts_behind first (v ∷ vs) h =
+  parts_after first [] h = record { prefix = λ rank lane l. refl; following = λ rank lane. refl }
+  parts_after first (v ∷ vs) h =
       both_joined 1 (measure_part true begun lengths m first v) (head_of first v)
-      (measure_part false own lengths m first v) _ _ _ (part_behind first v h.0)
-      (parts_behind (first + v.verses) vs h.1)
+      (measure_part false own lengths m first v) _ _ _ (part_after first v h.0)
+      (parts_after (first + v.verses) vs h.1)
 
   abbrev heads : List DrawnVoice → StaffMarks
   heads vs = staff_of_columns (parts_from head_of 1 vs)
 
-  staves_behind : (staves : List (List DrawnVoice))
-      → AllByRecursion (AllByRecursion Behind) staves
+  staves_after : (staves : List (List DrawnVoice))
+      → AllByRecursion (AllByRecursion Following) staves
       → StavesJoin 1 (map (measure_staff true begun lengths m) staves) (map heads staves)
       (map (measure_staff false own lengths m) staves)
-  staves_behind [] h = tt
-  staves_behind (vs ∷ staves) h = (parts_behind 1 vs h.0, staves_behind staves h.1)
+  staves_after [] h = tt
+  staves_after (vs ∷ staves) h = (parts_after 1 vs h.0, staves_after staves h.1)
 
 -- ---- the columns after the head
 some_voice : (f : Voice → List ColumnKey) (k : ColumnKey) (vs : List Voice) → Contains (flat_map f vs) k → 1 ≤ length vs
 some_voice f k [] (i, inside, is) = absurd (omega (arith, inside))
 some_voice f k (v ∷ vs) has = omega arith
 
-of_behind : (s : Score) (t : Timeline) (m : ℕ) (verses : List ℕ) (column : Column) (columns : List Column)
+of_after : (s : Score) (t : Timeline) (m : ℕ) (verses : List ℕ) (column : Column) (columns : List Column)
     → IsGoodScore s → t ≡ timeline_of s → 1 ≤ m → m < s.measures
     → list_all (begins_plain m) (map drawn_voice s.voices) ≡ true
     → AreMeasureColumns true s t m verses (column ∷ columns)
     → AreMeasureColumns false s t m verses columns
-of_behind s t m verses column columns good timed some within plain are =
+of_after s t m verses column columns good timed some within plain are =
     let lengths = t.lengths in
     let staves = drawn_staves s in
     let voices = map drawn_voice s.voices in
@@ -213,10 +213,10 @@ of_behind s t m verses column columns good timed some within plain are =
           (are.value
           ∙ ap (λ k. columns_of (k ∷ own) (map (measure_staff true (k ∷ own) lengths m) staves) lengths verses)
           called.0)
-          ∙ behind_same (map (measure_staff true (head_key m ∷ own) lengths m) staves)
+          ∙ after_same (map (measure_staff true (head_key m ∷ own) lengths m) staves)
           (map (heads lengths m s.measures some within own rise) staves)
           (map (measure_staff false own lengths m) staves) lengths verses
-          1 0 own (staves_behind lengths m s.measures some within own rise staves fit);
+          1 0 own (staves_after lengths m s.measures some within own rise staves fit);
     }
 
 min_one : (m : ℕ) → 1 ≤ m → 1 ≡ min m 1
@@ -226,14 +226,14 @@ apart : (m : ℕ) → 1 ≤ m → ((m - 1) == m) ≡ false
 apart m h = grind (arith, nat_tests, h)
 
 -- without voices there is no column
-none_behind : (s : Score) (t : Timeline) (m : ℕ) (verses : List ℕ) (vs : List Voice)
+none_after : (s : Score) (t : Timeline) (m : ℕ) (verses : List ℕ) (vs : List Voice)
     → s.voices ≡ vs → IsGoodScore s → AreMeasureColumns true s t m verses [] → AreMeasureColumns false s t m verses []
-none_behind s t m verses [] none good are = record {
+none_after s t m verses [] none good are = record {
   keys = subst (λ vs. AreKeys [] (flat_map (measure_keys t.lengths m) vs)) (sym none)
       (record { rise = tt; all = λ k h. h; only = λ k h. h });
   value = refl;
 }
-none_behind s t m verses (v ∷ vs) some good are =
+none_after s t m verses (v ∷ vs) some good are =
     let count = ap (λ vs. length vs) some in
     absurd (omega (arith, (head_inside s t.lengths m (m + 1) [] good (omega (arith, count)) are.keys).1))
 
@@ -248,5 +248,5 @@ plain_further s t m verses good timed some within plain begun are =
   where
     by : (begun : List Column)
         → AreMeasureColumns true s t m verses begun → AreMeasureColumns false s t m verses (drop 1 begun)
-    by [] are = none_behind s t m verses s.voices refl good are
-    by (column ∷ columns) are = of_behind s t m verses column columns good timed some within plain are
+    by [] are = none_after s t m verses s.voices refl good are
+    by (column ∷ columns) are = of_after s t m verses column columns good timed some within plain are

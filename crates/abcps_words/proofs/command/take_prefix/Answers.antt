@@ -1,8 +1,8 @@
 use Rattle.std.proofs.Common.{◌≡◌, ◌∷◌, string_bytes, map, sym, ◌∙◌, ap}
 use Rattle.abcps_words.specs.declared.command.Name.{Name}
 use Rattle.abcps_words.specs.Words.{name_bytes}
-use Rattle.abcps_words.proofs.Fronts.{unnamed, no_make, no_trial, no_hear}
-use Rattle.abcps_words.proofs.command.take_front.Goals as goal
+use Rattle.abcps_words.proofs.Prefixes.{unnamed, no_make, no_trial, no_hear}
+use Rattle.abcps_words.proofs.command.take_prefix.Goals as goal
 
 pub returns-in_err-name_of : goal.returns-in_err-name_of
 returns-in_err-name_of c = rw c.from_residual-in_err-name_of.ensures (λ d rest good e.

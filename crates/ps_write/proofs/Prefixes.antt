@@ -13,30 +13,30 @@ use Rattle.ps_write.specs.{Written.{WrotePrefix, counted_from}, declared.steps.D
 
 -- a prefix of the text went out, after which this many bytes were written, and the rest of it follows
 pub record Sent (old new : Option (List ℕ)) (start written : ℕ) (rest all : List ℕ) : Type 0 where
-  pub front : List ℕ
-  pub whole : all ≡ front ++ rest
-  pub sent : Appends old new front
-  pub count : written ≡ start + length front
+  pub prefix : List ℕ
+  pub whole : all ≡ prefix ++ rest
+  pub sent : Appends old new prefix
+  pub count : written ≡ start + length prefix
 
 pub sent_none : (old : Option (List ℕ)) (start : ℕ) (all : List ℕ) → Sent old old start start all all
-sent_none old start all = record { front = []; whole = refl; sent = Appends-nil old; count = omega arith }
+sent_none old start all = record { prefix = []; whole = refl; sent = Appends-nil old; count = omega arith }
 
 -- the next part went out
 pub sent_more : (old mid new : Option (List ℕ)) (start before written : ℕ) (text rest all : List ℕ)
     → Sent old mid start before (text ++ rest) all → Appends mid new text → written ≡ before + length text
     → Sent old new start written rest all
 sent_more old mid new start before written text rest all s p e = record {
-  front = s.front ++ text;
-  whole = s.whole ∙ sym (append_assoc s.front text rest);
-  sent = Appends-trans old mid new s.front text s.sent p;
-  count = omega (arith, length-append s.front text, s.count, e);
+  prefix = s.prefix ++ text;
+  whole = s.whole ∙ sym (append_assoc s.prefix text rest);
+  sent = Appends-trans old mid new s.prefix text s.sent p;
+  count = omega (arith, length-append s.prefix text, s.count, e);
 }
 
 -- the whole text went out
 pub sent_all : (old new : Option (List ℕ)) (start written : ℕ) (all : List ℕ)
     → Sent old new start written [] all → Appends old new all × (written ≡ start + length all)
 sent_all old new start written all s =
-    let e : s.front ≡ all = sym (s.whole ∙ append-nil s.front) in (
+    let e : s.prefix ≡ all = sym (s.whole ∙ append-nil s.prefix) in (
       subst (λ (text : List ℕ). Appends old new text) e s.sent,
       subst (λ (text : List ℕ). written ≡ start + length text) e s.count,
     )
@@ -50,17 +50,17 @@ wrote_first old new text rest DocError.Memory w =
     (w.0, rw (take-append-le w.0 text rest w.2) w.1, omega (arith, length-append text rest, w.2))
 
 -- a second part that failed, counted for both
-pub wrote_second : (old mid new : Option (List ℕ)) (front text : List ℕ) (n : ℕ) (e : DocError)
-    → length front ≡ n → Appends old mid front → WrotePrefix mid new text e
-    → WrotePrefix old new (front ++ text) (counted_from n e)
-wrote_second old mid new front text n (DocError.Write e) k p w = (
-  rw (← k, take-append-add front text e.written) (Appends-trans old mid new front (take e.written text) p w.0),
-  omega (arith, length-append front text, w.1, k),
+pub wrote_second : (old mid new : Option (List ℕ)) (prefix text : List ℕ) (n : ℕ) (e : DocError)
+    → length prefix ≡ n → Appends old mid prefix → WrotePrefix mid new text e
+    → WrotePrefix old new (prefix ++ text) (counted_from n e)
+wrote_second old mid new prefix text n (DocError.Write e) k p w = (
+  rw (← k, take-append-add prefix text e.written) (Appends-trans old mid new prefix (take e.written text) p w.0),
+  omega (arith, length-append prefix text, w.1, k),
 )
-wrote_second old mid new front text n DocError.Memory k p w = (
+wrote_second old mid new prefix text n DocError.Memory k p w = (
   n + w.0,
-  rw (← k, take-append-add front text w.0) (Appends-trans old mid new front (take w.0 text) p w.1),
-  omega (arith, length-append front text, w.2, k),
+  rw (← k, take-append-add prefix text w.0) (Appends-trans old mid new prefix (take w.0 text) p w.1),
+  omega (arith, length-append prefix text, w.2, k),
 )
 
 -- a part that failed after n bytes, counted for the whole
@@ -69,7 +69,7 @@ pub wrote_part : (old mid new : Option (List ℕ)) (start before n : ℕ) (text 
     → WrotePrefix old new all (counted_from n e)
 wrote_part old mid new start before n text rest all e s k w =
     subst (λ (bytes : List ℕ). WrotePrefix old new bytes (counted_from n e)) (sym s.whole)
-    (wrote_second old mid new s.front (text ++ rest) n e (omega (arith, s.count, k)) s.sent
+    (wrote_second old mid new s.prefix (text ++ rest) n e (omega (arith, s.count, k)) s.sent
     (wrote_first mid new text rest e w))
 
 -- a document is its prolog, its pages and its trailer

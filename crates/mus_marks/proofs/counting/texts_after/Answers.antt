@@ -1,6 +1,6 @@
 use Rattle.std.proofs.Common.{◌∙◌, ap}
 use Rattle.mus_marks.{specs.Places.with_texts_counted, proofs.Counts.all_counted}
-use Rattle.mus_marks.proofs.counting.texts_behind.Goals as goal
+use Rattle.mus_marks.proofs.counting.texts_after.Goals as goal
 
 pub returns : goal.returns
 returns c =

@@ -1,6 +1,6 @@
 use Rattle.std.proofs.Common.{◌≡◌, ◌≤◌, length}
 use Rattle.abc_notes.specs.{Parts.walk, Items.inner_at}
-use Rattle.abc_notes.proofs.chord.behind_parts.Given as goal
+use Rattle.abc_notes.proofs.chord.after_parts.Given as goal
 
 abbrev pub invariant-parts : goal.invariant-parts
 invariant-parts l = record {

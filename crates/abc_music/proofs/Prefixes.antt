@@ -30,7 +30,7 @@ use Rattle.abc_music.specs.declared.token.LineRest.{LineRest}
 use Rattle.abc_music.specs.Good.{AreGoodTokens}
 use Rattle.abc_music.specs.Tokens.{GivesTokens, clear, breaks, leads, column, with_token, kind_after, IsHere}
 use Rattle.abc_music.specs.Tokens.{IsBracketFlaw, IsOwnFlaw, fault_at, GivesTokensFrom, PartOf}
-use Rattle.abc_music.proofs.GoodLaws.{good_front}
+use Rattle.abc_music.proofs.GoodLaws.{good_prefix}
 use Rattle.abc_music.proofs.Line.{no_chord, no_grace}
 
 abbrev HasFlaw : (Flaw → Type 0) → Type 0
@@ -157,15 +157,15 @@ line_flaw at Own None own = own
 line_flaw at Own (Some kind) own = (record { kind = kind; left = at }, refl)
 
 -- what a line gives from a position on
-abbrev HasFront : Bool → ℕ → PieceBefore → ℕ → List ℕ → Type 0
-HasFront bang n before at s = (ts : List Placed) × (end : Option Flaw) × GivesTokens bang n before at s ts end
+abbrev HasPrefix : Bool → ℕ → PieceBefore → ℕ → List ℕ → Type 0
+HasPrefix bang n before at s = (ts : List Placed) × (end : Option Flaw) × GivesTokens bang n before at s ts end
 
-pub has_front : (bang : Bool) (n : ℕ) (before : PieceBefore) (at : ℕ) (s : List ℕ) → HasFront bang n before at s
-has_front bang n before at s = within (length s) before at s (omega arith) where
+pub has_prefix : (bang : Bool) (n : ℕ) (before : PieceBefore) (at : ℕ) (s : List ℕ) → HasPrefix bang n before at s
+has_prefix bang n before at s = within (length s) before at s (omega arith) where
   read_on : (before : PieceBefore) (at : ℕ) (s : List ℕ) (o : FormAndRest)
       → piece_at bang before s ≡ o
-      → ((next : PieceBefore) (rest : List ℕ) → length rest < length s → HasFront bang n next (length s) rest)
-      → HasFront bang n before at s
+      → ((next : PieceBefore) (rest : List ℕ) → length rest < length s → HasPrefix bang n next (length s) rest)
+      → HasPrefix bang n before at s
   read_on before at [] o e next = ([], None, clear before at)
   read_on before at (byte ∷ s) None e next =
       let flaw = line_flaw at (IsOwnFlaw bang byte s) (kind_after before byte) (own_flaw bang before byte s e) in
@@ -179,35 +179,35 @@ has_front bang n before at s = within (length s) before at s (omega arith) where
             more.2 refl,
       )
 
-  within : (m : ℕ) (before : PieceBefore) (at : ℕ) (s : List ℕ) → length s ≤ m → HasFront bang n before at s
+  within : (m : ℕ) (before : PieceBefore) (at : ℕ) (s : List ℕ) → length s ≤ m → HasPrefix bang n before at s
   within zero before at s h =
       read_on before at s (piece_at bang before s) refl (λ next rest lt. absurd (omega (arith, lt, h)))
   within (suc m) before at s h =
       read_on before at s (piece_at bang before s) refl
       (λ next rest lt. within m next (length s) rest (omega (arith, lt, h)))
 
-pub front_from : (bang : Bool) (line : Line) (place : TokenCursor)
+pub prefix_from : (bang : Bool) (line : Line) (place : TokenCursor)
     → (more : List Placed) × (fault : Option Fault) × GivesTokensFrom bang line place more fault
-front_from bang line place =
-    let f = has_front bang (length line.text) place.before place.at place.rest.now in
+prefix_from bang line place =
+    let f = has_prefix bang (length line.text) place.before place.at place.rest.now in
     (f.0, option_map (fault_at line) f.1, (f.1, f.2, refl))
 
 -- a part is followed by some more tokens, with which the line is read up to its first fault
-pub behind_part : (bang : Bool) (line : Line) (place : TokenCursor) (ts : List Placed) (behind : LineRest)
-    → PartOf bang line place ts behind
+pub after_part : (bang : Bool) (line : Line) (place : TokenCursor) (ts : List Placed) (following : LineRest)
+    → PartOf bang line place ts following
     → (more : List Placed) × (fault : Option Fault) × GivesTokensFrom bang line place (ts ++ more) fault
-behind_part bang line place ts (LineRest.More next) part =
-    let f = front_from bang line next in (f.0, f.1, part.0 f.0 f.1 f.2)
-behind_part bang line place ts (LineRest.End fault) part =
+after_part bang line place ts (LineRest.More next) part =
+    let f = prefix_from bang line next in (f.0, f.1, part.0 f.0 f.1 f.2)
+after_part bang line place ts (LineRest.End fault) part =
     ([], fault, subst (λ us. GivesTokensFrom bang line place us fault) (sym (append-nil ts)) part)
 
 good_before : (ts more : List Placed) → AreGoodTokens (ts ++ more) → AreGoodTokens ts
 good_before [] more good = tt
 good_before (t ∷ ts) more good = (good.0, good_before ts more good.1)
 
-pub good_part : (bang : Bool) (line : Line) (place : TokenCursor) (ts : List Placed) (behind : LineRest)
-    → PartOf bang line place ts behind → AreGoodTokens ts
-good_part bang line place ts behind part =
-    let all = behind_part bang line place ts behind part in
+pub good_part : (bang : Bool) (line : Line) (place : TokenCursor) (ts : List Placed) (following : LineRest)
+    → PartOf bang line place ts following → AreGoodTokens ts
+good_part bang line place ts following part =
+    let all = after_part bang line place ts following part in
     good_before ts all.0
-    (good_front bang (length line.text) place.before place.at place.rest.now (ts ++ all.0) all.2.0 all.2.1)
+    (good_prefix bang (length line.text) place.before place.at place.rest.now (ts ++ all.0) all.2.0 all.2.1)
