@@ -1,5 +1,7 @@
 -- The items or faults that the lines of a body give, line by line and token by token in the order of the text. A body
 -- without a fault is its items; any other has the first of its faults.
+use Rattle.std.specs.Prelude.{codes}
+use Prim.Native.Char.{code}
 use Rattle.std.specs.Prelude.{◌≡◌, ℕ, ◌+◌, ◌-◌, ◌*◌, ◌==◌, ◌&&◌, not, nat_lt, List, [], ◌∷◌, ◌++◌, Bool, true, false}
 use Rattle.std.specs.Prelude.{if◌then◌else◌, map, flat_map, length, take, get_or, Option, Some, None, Result, Ok, Err}
 use Rattle.std.specs.Prelude.{⊤, nat_eq}
@@ -71,7 +73,7 @@ chord_sound chord =
 
 -- whether the line break that a byte writes, a dollar sign or an exclamation mark, is on
 abbrev pub is_on : Breaks → ℕ → Bool
-is_on breaks byte = if byte == 36 then breaks.dollar else breaks.bang
+is_on breaks byte = if byte == code "$" then breaks.dollar else breaks.bang
 
 abbrev pub cut_given : Bool → ℕ → ℕ → List ItemOrFault
 cut_given true line column = step_at Step.Break line column
@@ -104,7 +106,7 @@ placed_given breaks line placed = item_of_token breaks line placed.column placed
 
 -- the end of a music line: a backslash there joins the next line to it; otherwise it is a line break if line ends are
 abbrev pub is_line_joined : List ℕ → Bool
-is_line_joined text = ends_with nat_eq text (92 ∷ [])
+is_line_joined text = ends_with nat_eq text (codes "\\")
 
 abbrev pub end_item : Breaks → Line → BodyItem
 end_item breaks line =

@@ -1,5 +1,6 @@
 -- The voices of a tune: which ones there are, in order of first mention; what each begins with; and which steps of
 -- the body belong to it.
+use Rattle.std.specs.Prelude.{codes}
 use Rattle.std.specs.Prelude.{ℕ, List, [], ◌∷◌, ◌++◌, ◌==◌, ◌&&◌, not, Bool, true, false, if◌then◌else◌, map, fold}
 use Rattle.std.specs.Prelude.{find, length, Option, Some, None, unwrap_or}
 use Rattle.std.specs.Str.{bytes_eq}
@@ -28,7 +29,7 @@ claims _ = true
 
 -- the id of the voice for music without any voice
 abbrev pub voice_one : List ℕ
-voice_one = 49 ∷ []
+voice_one = codes "1"
 
 -- The ids that are mentioned, each once, in order of first mention: a voice field mentions its id, and a step that
 -- claims its voice mentions the voice 1 if no other was mentioned.

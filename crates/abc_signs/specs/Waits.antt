@@ -1,5 +1,6 @@
 -- What is pending for an event: changes, graces, decorations, texts and an ending, from the steps between the
 -- previous event and this one.
+use Prim.Native.Char.{code}
 use Rattle.std.specs.Prelude.{ℕ, List, [], ◌∷◌, ◌++◌, flat_map, Bool, true, false, ◌==◌, ◌||◌, if◌then◌else◌, Option}
 use Rattle.std.specs.Prelude.{Some, None}
 use Rattle.std.specs.List.{list_any}
@@ -20,13 +21,13 @@ decos_in _ = []
 -- a first character of ^ < > @ marks an annotation above, and _ one below, both without that character; any other
 -- text is a chord symbol, which is above
 abbrev pub is_annotation_above : ℕ → Bool
-is_annotation_above c = c == 94 || (c == 60 || (c == 62 || c == 64))
+is_annotation_above c = c == code "^" || (c == code "<" || (c == code ">" || c == code "@"))
 
 abbrev pub mention_of : List ℕ → Mention
 mention_of [] = record { below = false; text = [] }
 mention_of (c ∷ text) =
     if is_annotation_above c then record { below = false; text = text }
-    else (if c == 95 then record { below = true; text = text } else record { below = false; text = c ∷ text })
+    else (if c == code "_" then record { below = true; text = text } else record { below = false; text = c ∷ text })
 
 unfoldable pub mentions_in : Step → List Mention
 mentions_in (Step.Says text) = mention_of text ∷ []

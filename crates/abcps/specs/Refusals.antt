@@ -5,7 +5,7 @@ use Rattle.abcps.specs.declared.refusing.Refusal.{Refusal}
 use Rattle.abcps.specs.declared.status.Status.{Status}
 
 abbrev pub not_pages_line : ℕ → List ℕ
-not_pages_line line = codes "not pages at line " ++ decimal line ++ 10 ∷ []
+not_pages_line line = codes "not pages at line " ++ decimal line ++ codes "\n"
 
 abbrev pub refusal_status : Refusal → Status
 refusal_status (Refusal.NotPages line) = Status.NotPages

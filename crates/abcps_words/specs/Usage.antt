@@ -5,4 +5,4 @@ unfoldable pub usage_line : List ℕ
 usage_line =
     codes "usage: abcps set [--flow] [--jobs N] [--transpose N] [--even] | systems [--flow] [--table] "
     ++ codes "[--transpose N] | inspect | check | make N | trial N [--flow] [--jobs N] [--even] | paint | hear W"
-    ++ 10 ∷ []
+    ++ codes "\n"

@@ -1,3 +1,4 @@
+ghost use Rattle.std.specs.Prelude.{codes};
 ghost use Rattle.std.specs.Prelude.{◌≡◌, ◌<◌, ◌^◌, ◌++◌, ◌∷◌, ℕ, List, decimal, MatchOption, OnErr, OnOk, Some, ◌==◌};
 ghost use Rattle.std.specs.List.{position};
 ghost use Rattle.eng_lines.specs.Lines.{Lacks};
@@ -25,7 +26,7 @@ pub fn put_named(out: &mut Text, name: &[u8], number: u64) -> Result<(), Memory>
 
 /// Adds a space and then a number at the end of a text.
 pub fn put_next(out: &mut Text, number: u64) -> Result<(), Memory>
-    ensures { OnOk result (out.new ≡ out.old ++ 32 ∷ decimal number) }
+    ensures { OnOk result (out.new ≡ out.old ++ (codes " " ++ decimal number)) }
 {
     out.push(b' ')?;
     put_number(out, number)
@@ -92,8 +93,9 @@ pub fn small_number(bytes: &[u8]) -> Option<u32>
 /// Returns the number below 2^32 before the first space, and the rest after the space. `None` exactly when the bytes
 /// don't begin so.
 pub fn number_and_rest(bytes: &[u8]) -> Option<(u32, &[u8])>
-    ensures { MatchOption result ((n : ℕ) (rest : List ℕ) → n < 2 ^ 32 → bytes.now ≡ decimal n ++ 32 ∷ rest → ⊥)
-        (λ z. (bytes.now ≡ decimal z.0 ++ 32 ∷ z.1.now) × (z.0 < 2 ^ 32)) }
+    ensures { MatchOption result
+        ((n : ℕ) (rest : List ℕ) → n < 2 ^ 32 → bytes.now ≡ decimal n ++ (codes " " ++ rest) → ⊥)
+        (λ z. (bytes.now ≡ decimal z.0 ++ (codes " " ++ z.1.now)) × (z.0 < 2 ^ 32)) }
 {
     let (start, rest) = cut_at(b' ', bytes)?;
     Some((small_number(start)?, rest))
@@ -103,8 +105,8 @@ pub fn number_and_rest(bytes: &[u8]) -> Option<(u32, &[u8])>
 /// no such line.
 pub fn numbers_after(prefix: &[u8], bytes: &[u8]) -> Option<(u32, u32)>
     ensures { MatchOption result
-        ((a b : ℕ) → a < 2 ^ 32 → b < 2 ^ 32 → bytes.now ≡ prefix.now ++ decimal a ++ 32 ∷ decimal b → ⊥)
-        (λ z. (bytes.now ≡ prefix.now ++ decimal z.0 ++ 32 ∷ decimal z.1) × (z.0 < 2 ^ 32) × (z.1 < 2 ^ 32)) }
+        ((a b : ℕ) → a < 2 ^ 32 → b < 2 ^ 32 → bytes.now ≡ prefix.now ++ decimal a ++ (codes " " ++ decimal b) → ⊥)
+        (λ z. (bytes.now ≡ prefix.now ++ decimal z.0 ++ (codes " " ++ decimal z.1)) × (z.0 < 2 ^ 32) × (z.1 < 2 ^ 32)) }
 {
     let rest = strip(prefix, bytes)?;
     let (a, rest) = number_and_rest(rest)?;

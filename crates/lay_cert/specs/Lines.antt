@@ -1,4 +1,5 @@
 -- The lines of a listing, as they are printed.
+use Prim.Native.Char.{code}
 use Rattle.std.specs.Prelude.{ℕ, List, [], ◌∷◌, ◌++◌, Option, Some, None, codes, decimal}
 use Rattle.lay_cert.specs.declared.lines.ListingLine.{ListingLine}
 use Rattle.lay_cert.specs.declared.lines.ListingLine.TheVariants.{Listing, Tune, OneSpan, Choose, Total, Potential, End}
@@ -11,14 +12,14 @@ sum_text (Some v) = decimal v
 -- Words and numbers, separated by one space. Numbers are decimal, without leading zeros.
 abbrev pub line_text : ListingLine → List ℕ
 line_text Listing = codes "listing 1"
-line_text (Tune tune bars) = codes "tune " ++ decimal tune ++ 32 ∷ codes "measures " ++ decimal bars
-line_text (OneSpan s) = codes "span " ++ decimal s.a ++ 32 ∷ decimal s.b ++ 32 ∷ decimal s.badness
+line_text (Tune tune bars) = codes "tune " ++ decimal tune ++ codes " measures " ++ decimal bars
+line_text (OneSpan s) = codes "span " ++ decimal s.a ++ code " " ∷ decimal s.b ++ code " " ∷ decimal s.badness
 line_text (Choose bar) = codes "choose " ++ decimal bar
 line_text (Total total) = codes "total " ++ decimal total
-line_text (Potential bar least) = codes "potential " ++ decimal bar ++ 32 ∷ sum_text least
+line_text (Potential bar least) = codes "potential " ++ decimal bar ++ code " " ∷ sum_text least
 line_text End = codes "end"
 
 -- the lines, each ended by a line feed, and then what follows them
 abbrev pub lines_then : List ListingLine → List ℕ → List ℕ
 lines_then [] rest = rest
-lines_then (l ∷ ls) rest = line_text l ++ 10 ∷ lines_then ls rest
+lines_then (l ∷ ls) rest = line_text l ++ code "\n" ∷ lines_then ls rest

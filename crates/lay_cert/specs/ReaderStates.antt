@@ -1,4 +1,6 @@
 -- Which line may follow which: the lines of a listing, each judged by the lines before it alone.
+use Prim.Native.Char.{code}
+use Rattle.std.specs.Prelude.{codes}
 use Rattle.std.specs.Prelude.{◌≡◌, ℕ, ◌+◌, ◌<◌, ◌≤◌, ◌^◌, ◌==◌, List, [], ◌∷◌, ◌++◌, length, Option, Some, None, IsSome}
 use Rattle.std.specs.Prelude.{if◌then◌else◌}
 use Rattle.lay_breaks.specs.Breaking.{last_from, sum_from, IsPotential}
@@ -87,7 +89,7 @@ Leads p (l ∷ ls) q = MayCome p l × Leads (state_after p l) ls q
 -- no good line comes next, and this isn't the end
 abbrev pub IsStuck : ReaderState → List ℕ → Type 0
 IsStuck p rest =
-    ((l : ListingLine) (more : List ℕ) → rest ≡ line_text l ++ 10 ∷ more → MayCome p l → ⊥)
+    ((l : ListingLine) (more : List ℕ) → rest ≡ line_text l ++ code "\n" ∷ more → MayCome p l → ⊥)
     × ((es : List Entry) → rest ≡ [] → p ≡ ended es → ⊥)
 
 -- the number of the first line that isn't good, or one past the last if all are good and the last isn't `end`

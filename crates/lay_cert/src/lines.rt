@@ -36,7 +36,7 @@ fn put_sum(out: &mut Text, sum: Option<u64>) -> Result<(), Memory>
 
 fn put_tune(out: &mut Text, tune: u32, bars: u32) -> Result<(), Memory>
     ensures { OnOk result
-        (out.new ≡ out.old ++ codes "tune " ++ decimal tune ++ 32 ∷ codes "measures " ++ decimal bars) }
+        (out.new ≡ out.old ++ codes "tune " ++ decimal tune ++ codes " measures " ++ decimal bars) }
 {
     put_named(out, b"tune ", tune as u64)?;
     put_named(out, b" measures ", bars as u64)
@@ -44,7 +44,9 @@ fn put_tune(out: &mut Text, tune: u32, bars: u32) -> Result<(), Memory>
 
 fn put_span(out: &mut Text, span: Span) -> Result<(), Memory>
     ensures { OnOk result
-        (out.new ≡ out.old ++ codes "span " ++ decimal span.a ++ 32 ∷ decimal span.b ++ 32 ∷ decimal span.badness) }
+        (out.new
+        ≡ out.old ++ codes "span " ++ decimal span.a
+        ++ (codes " " ++ decimal span.b ++ (codes " " ++ decimal span.badness))) }
 {
     put_named(out, b"span ", span.a as u64)?;
     put_next(out, span.b as u64)?;
@@ -52,7 +54,7 @@ fn put_span(out: &mut Text, span: Span) -> Result<(), Memory>
 }
 
 fn put_potential(out: &mut Text, bar: u32, least: Option<u64>) -> Result<(), Memory>
-    ensures { OnOk result (out.new ≡ out.old ++ codes "potential " ++ decimal bar ++ 32 ∷ sum_text least) }
+    ensures { OnOk result (out.new ≡ out.old ++ codes "potential " ++ decimal bar ++ (codes " " ++ sum_text least)) }
 {
     put_named(out, b"potential ", bar as u64)?;
     out.push(b' ')?;

@@ -15,7 +15,7 @@ fn put_bars(out: &mut Text, bars: &[u32]) -> Result<(), Memory>
 }
 
 fn put_least(out: &mut Text, tune: u32, total: u64) -> Result<(), Memory>
-    ensures { OnOk result (out.new ≡ out.old ++ codes "least " ++ decimal tune ++ 32 ∷ decimal total) }
+    ensures { OnOk result (out.new ≡ out.old ++ codes "least " ++ decimal tune ++ (codes " " ++ decimal total)) }
 {
     put_named(out, b"least ", tune as u64)?;
     put_next(out, total)
@@ -30,8 +30,9 @@ fn put_not_least(
 ) -> Result<(), Memory>
     ensures { OnOk result
         (out.new
-        ≡ out.old ++ codes "notleast " ++ decimal tune ++ 32 ∷ decimal total ++ 32 ∷ decimal better
-        ++ bars_text breaks.now ++ 10 ∷ []) }
+        ≡ out.old ++ codes "notleast " ++ decimal tune
+        ++ (codes " " ++ decimal total
+        ++ (codes " " ++ decimal better ++ bars_text breaks.now ++ codes "\n"))) }
 {
     put_named(out, b"notleast ", tune as u64)?;
     put_next(out, total)?;

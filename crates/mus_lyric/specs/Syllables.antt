@@ -1,5 +1,6 @@
 -- The syllables of a line of words. A syllable is a longest run of printed characters, and a hyphen directly after it
 -- is printed with it and ends it.
+use Rattle.std.specs.Prelude.{codes}
 use Rattle.std.specs.Prelude.{ℕ, List, [], ◌∷◌, ◌++◌, map}
 use Rattle.mus_lyric.specs.declared.character.Character.{Character}
 use Rattle.mus_lyric.specs.declared.character.Character.TheVariants.{Printed, Blank, Hyphen, Underscore, Star, BarLine}
@@ -30,11 +31,11 @@ pub data SpellsSyllables : List Character → List Syl → Type 0 where
       → SpellsSyllables (Printed first ∷ printed_run run ++ more) (syl.Print (first ∷ run) ∷ syls)
   hyphened : (first : ℕ) (run : List ℕ) (more : List Character) (syls : List Syl)
       → SpellsSyllables more syls
-      → SpellsSyllables (Printed first ∷ printed_run run ++ Hyphen ∷ more) (syl.Print (first ∷ run ++ 45 ∷ []) ∷ syls)
+      → SpellsSyllables (Printed first ∷ printed_run run ++ Hyphen ∷ more) (syl.Print (first ∷ run ++ codes "-") ∷ syls)
   hyphen : (more : List Character) (syls : List Syl)
-      → SpellsSyllables more syls → SpellsSyllables (Hyphen ∷ more) (syl.Print (45 ∷ []) ∷ syls)
+      → SpellsSyllables more syls → SpellsSyllables (Hyphen ∷ more) (syl.Print (codes "-") ∷ syls)
   underscore : (more : List Character) (syls : List Syl)
-      → SpellsSyllables more syls → SpellsSyllables (Underscore ∷ more) (syl.Print (95 ∷ []) ∷ syls)
+      → SpellsSyllables more syls → SpellsSyllables (Underscore ∷ more) (syl.Print (codes "_") ∷ syls)
   star : (more : List Character) (syls : List Syl)
       → SpellsSyllables more syls → SpellsSyllables (Star ∷ more) (syl.Skip ∷ syls)
   bar : (more : List Character) (syls : List Syl)
@@ -56,8 +57,8 @@ abbrev pub after_run : List ℕ → List Character → List Syl
 after_run run [] = run_ended run []
 after_run run (Printed byte ∷ more) = after_run (run ++ byte ∷ []) more
 after_run run (Blank ∷ more) = run_ended run (after_run [] more)
-after_run run (Hyphen ∷ more) = syl.Print (run ++ 45 ∷ []) ∷ after_run [] more
-after_run run (Underscore ∷ more) = run_ended run (syl.Print (95 ∷ []) ∷ after_run [] more)
+after_run run (Hyphen ∷ more) = syl.Print (run ++ codes "-") ∷ after_run [] more
+after_run run (Underscore ∷ more) = run_ended run (syl.Print (codes "_") ∷ after_run [] more)
 after_run run (Star ∷ more) = run_ended run (syl.Skip ∷ after_run [] more)
 after_run run (BarLine ∷ more) = run_ended run (syl.Bar ∷ after_run [] more)
 

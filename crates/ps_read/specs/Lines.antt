@@ -1,4 +1,6 @@
 -- The lines of a document, without the LF that ends each: the fixed ones, and those with numbers or words in them.
+use Prim.Native.Char.{code}
+use Rattle.std.specs.Prelude.{codes}
 use Rattle.std.specs.Prelude.{◌≡◌, ℕ, ℤ, ◌+◌, List, [], ◌∷◌, ◌++◌, length, drop}
 use Rattle.{eng_lines.specs.Lines.{Lacks}, mus_units.specs.declared.glyph.Size.{Size}}
 use Rattle.ps_text.specs.Document.{rules_line, staff_line, join_line, system_line, title_line, tune_line, heading_line}
@@ -35,7 +37,7 @@ line_text (Mark y m) = mark_line y m
 -- the lines, each ended by an LF, and then what follows them
 abbrev pub lines_then : List Line → List ℕ → List ℕ
 lines_then [] rest = rest
-lines_then (l ∷ ls) rest = line_text l ++ 10 ∷ lines_then ls rest
+lines_then (l ∷ ls) rest = line_text l ++ code "\n" ∷ lines_then ls rest
 
 -- what is left of a text after its first line
 abbrev pub after_line : List ℕ → List ℕ → List ℕ
@@ -44,4 +46,4 @@ after_line line text = drop (length line + 1) text
 -- the line is the first of the text
 pub record IsFirstLine (line text : List ℕ) : Type 0 where
   pub whole : Lacks 10 line
-  pub first : text ≡ line ++ 10 ∷ after_line line text
+  pub first : text ≡ line ++ code "\n" ∷ after_line line text

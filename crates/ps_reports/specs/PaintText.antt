@@ -2,6 +2,7 @@
 -- `stroke` and the width, followed by each piece of the path as its numbers and `m`, `l`, `c` or `z`; or `show` with
 -- size, x and y, and the words in parentheses, spelled as on a page. Parts are separated by one space. A run that
 -- halts has one line: the number of tokens that were executed before, and the cause.
+use Prim.Native.Char.{code}
 use Rattle.std.specs.{Prelude.{ℕ, ℤ, List, [], ◌∷◌, ◌++◌, codes, decimal, flat_map}, Fmt.signed_decimal}
 use Rattle.ps_text.specs.Document.{numbered}
 use Rattle.ps_text.specs.Fields.{quoted}
@@ -12,7 +13,7 @@ use Rattle.ps_steps.specs.declared.paint.PagePaint.{PagePaint}
 
 -- numbers in decimal, each after a space
 unfoldable pub spaced : List ℤ → List ℕ
-spaced zs = flat_map (λ z. 32 ∷ signed_decimal z) zs
+spaced zs = flat_map (λ z. code " " ∷ signed_decimal z) zs
 
 abbrev pub seg_text : Seg → List ℕ
 seg_text (Seg.Move x y) = spaced (x ∷ y ∷ []) ++ codes " m"
@@ -24,10 +25,10 @@ abbrev pub paint_line : Paint → List ℕ
 paint_line (Paint.Fill path) = codes "fill" ++ flat_map seg_text path ++ codes "\n"
 paint_line (Paint.Stroke width path) = codes "stroke" ++ spaced (width ∷ []) ++ flat_map seg_text path ++ codes "\n"
 paint_line (Paint.Show size x y words) =
-    codes "show" ++ spaced (size ∷ x ∷ y ∷ []) ++ codes " " ++ quoted words ++ codes "\n"
+    codes "show" ++ spaced (size ∷ x ∷ y ∷ []) ++ code " " ∷ quoted words ++ codes "\n"
 
 abbrev pub painted_page : ℕ → PagePaint → List ℕ
-painted_page k page = codes "page " ++ decimal k ++ codes "\n" ++ flat_map paint_line page.paints
+painted_page k page = codes "page " ++ decimal k ++ code "\n" ∷ flat_map paint_line page.paints
 
 abbrev pub paint_text : List PagePaint → List ℕ
 paint_text pages = numbered painted_page 1 pages

@@ -1,5 +1,6 @@
 -- What `inspect` prints for a sheet: a line for the frame, each page, each item, each staff and each mark, and last
 -- the number of pages.
+use Prim.Native.Char.{code}
 use Rattle.std.specs.Prelude.{ℕ, ℤ, pos, List, [], ◌∷◌, ◌++◌, length, codes, decimal}
 use Rattle.std.specs.List.{flat_map}
 use Rattle.mus_units.specs.declared.glyph.Size.{Size}
@@ -17,15 +18,15 @@ use Rattle.ps_text.specs.declared.sheet.Sheet.{Sheet}
 
 -- a line with a kind and numbers
 unfoldable pub plain_line : List ℕ → List ℤ → List ℕ
-plain_line kind zs = kind ++ spaced zs ++ 10 ∷ []
+plain_line kind zs = kind ++ spaced zs ++ codes "\n"
 
 -- a line with a kind, a name and numbers
 unfoldable pub named_line : List ℕ → List ℕ → List ℤ → List ℕ
-named_line kind name zs = kind ++ name ++ spaced zs ++ 10 ∷ []
+named_line kind name zs = kind ++ name ++ spaced zs ++ codes "\n"
 
 -- a line with a kind, a size, a place and words
 unfoldable pub report_words_line : List ℕ → Size → List ℤ → List ℕ → List ℕ
-report_words_line kind size zs words = kind ++ size_name size ++ spaced zs ++ 32 ∷ quoted words ++ 10 ∷ []
+report_words_line kind size zs words = kind ++ size_name size ++ spaced zs ++ code " " ∷ quoted words ++ codes "\n"
 
 -- a mark: its kind, its name or its words, and its numbers
 abbrev pub mark_report : PageMark → List ℕ

@@ -13,7 +13,7 @@ use ps_text::fields::put_quoted;
 
 /// Adds a number after a space.
 fn put_spaced_one(out: &mut Text, number: i64) -> Result<(), Memory>
-    ensures { OnOk result (out.new ≡ out.old ++ 32 ∷ signed_decimal number) }
+    ensures { OnOk result (out.new ≡ out.old ++ (codes " " ++ signed_decimal number)) }
 {
     let mut buffer = Buffer::new();
     out.push(b' ')?;

@@ -1,3 +1,4 @@
+ghost use Rattle.std.specs.Prelude.{codes};
 ghost use Rattle.std.specs.Prelude.{◌≡◌, ◌+◌, ◌*◌, ◌≤◌, ◌++◌, ◌∷◌, OnOk, [], drop, flat_map, length};
 ghost use Rattle.std.specs.Fmt.{signed_decimal};
 ghost use Rattle.{glyph_paths.specs.Procedure.{numbers}, ps_text.specs.Fields.{shown, quoted, in_parentheses}};
@@ -10,7 +11,7 @@ use mus_units::{Memory, Text};
 fn write_number(line: &mut [u8], end: usize, z: i64) -> usize
     requires { (21 ≤ end) × (end ≤ length line.old) }
     ensures short { (result ≤ end) × (end ≤ result + 21) }
-    ensures written { drop result line.new ≡ signed_decimal z ++ 32 ∷ drop end line.old }
+    ensures written { drop result line.new ≡ signed_decimal z ++ (codes " " ++ drop end line.old) }
 {
     line[end - 1] = b' ';
     let start = write_digits(z.unsigned_abs(), line, end - 1);

@@ -1,5 +1,6 @@
 //! What a text begins with.
 
+ghost use Rattle.std.specs.Prelude.{codes};
 ghost use Rattle.std.specs.Prelude.{◌≡◌, ◌≤◌, ◌++◌, ◌∷◌, ℕ, List, length, true, false, IfOk, MatchOption};
 ghost use Rattle.ps_steps.specs.Tokens.{font_line, begins, is_regular, is_skipped, Front};
 ghost use Rattle.ps_tokens.specs.Reading.{read_of};
@@ -39,7 +40,7 @@ fn strip<'a>(prefix: &[u8], bytes: &'a [u8]) -> Option<&'a [u8]>
 
 /// Reads what begins with a slash.
 fn slash<'a>(alloc: Global, bytes: &'a [u8], after: &'a [u8]) -> Result<TokenStart<'a>, Memory>
-    requires { bytes.now ≡ 47 ∷ after.now }
+    requires { bytes.now ≡ codes "/" ++ after.now }
     ensures { IfOk result (λ r. Front bytes.now (read_of r)) }
 {
     if let Some(rest) = strip(font_bytes(), bytes) {

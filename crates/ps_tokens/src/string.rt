@@ -1,5 +1,6 @@
 //! Strings, as words are spelled in parentheses.
 
+ghost use Rattle.std.specs.Prelude.{codes};
 ghost use Rattle.std.specs.Prelude.{◌≡◌, ◌∷◌, ◌≤◌, true, false, IfOk};
 ghost use Rattle.ps_text.specs.Fields.{is_special};
 ghost use Rattle.ps_steps.specs.Tokens.{Front};
@@ -54,7 +55,7 @@ const FIRST_HIGH: u8 = 160;
 fn third(a: u8, b: u8, bytes: &[u8]) -> Spelling<'_>
     requires lead { is_lead a ≡ true }
     requires octal { is_octal b ≡ true }
-    ensures { IsSpelling (92 ∷ a ∷ b ∷ bytes.now) result }
+    ensures { IsSpelling (codes "\\" ++ a ∷ b ∷ bytes.now) result }
 {
     let value = (a - b'0') * 64 + (b - b'0') * 8;
     if value < FIRST_HIGH {
@@ -75,7 +76,7 @@ fn third(a: u8, b: u8, bytes: &[u8]) -> Spelling<'_>
 /// Reads on after a backslash and a byte that is neither a parenthesis nor a backslash.
 fn second(a: u8, bytes: &[u8]) -> Spelling<'_>
     requires { is_special a ≡ false }
-    ensures { IsSpelling (92 ∷ a ∷ bytes.now) result }
+    ensures { IsSpelling (codes "\\" ++ a ∷ bytes.now) result }
 {
     if !is_lead(a) {
         return Spelling::Broken;
@@ -94,7 +95,7 @@ fn second(a: u8, bytes: &[u8]) -> Spelling<'_>
 
 /// Reads on after a backslash.
 fn escaped(bytes: &[u8]) -> Spelling<'_>
-    ensures { IsSpelling (92 ∷ bytes.now) result }
+    ensures { IsSpelling (codes "\\" ++ bytes.now) result }
 {
     match bytes.split_first() {
         None => Spelling::Cut,
@@ -130,7 +131,7 @@ fn read_spelling(bytes: &[u8]) -> Spelling<'_>
 
 /// Reads what follows a `(`.
 pub fn string(alloc: Global, bytes: &[u8]) -> Result<TokenStart<'_>, Memory>
-    ensures { IfOk result (λ r. Front (40 ∷ bytes.now) (read_of r)) }
+    ensures { IfOk result (λ r. Front (codes "(" ++ bytes.now) (read_of r)) }
 {
     let mut words = Text::new(alloc);
     let mut rest = bytes;

@@ -38,7 +38,7 @@ kind_name (FaultKind.TooTall block) = codes "TooTall " ++ decimal block
 unfoldable pub fault_report : ℕ → Fault → List ℕ
 fault_report ordinal fault =
     codes "tune " ++ decimal ordinal ++ codes " line " ++ decimal fault.line ++ codes " column " ++ decimal fault.column
-    ++ codes ": " ++ kind_name fault.kind ++ 10 ∷ []
+    ++ codes ": " ++ kind_name fault.kind ++ codes "\n"
 
 -- a tune without a fault has no line
 abbrev pub result_report : ℕ → Result SetTune Fault → List ℕ

@@ -1,4 +1,5 @@
 -- The systems of a book: for each tune without a fault its line, and a line for each of its systems.
+use Prim.Native.Char.{code}
 use Rattle.std.specs.{Prelude.{ℕ, List, [], ◌∷◌, ◌++◌, codes, decimal, Result, Ok, Err, unwrap_or}, List.flat_map}
 use Rattle.abc_lines.specs.declared.fault.Fault.{Fault}
 use Rattle.mus_laid.specs.declared.laid.SystemMarks.{SystemMarks}
@@ -15,8 +16,8 @@ badness_in spans a b = unwrap_or (listed spans a b) 0
 -- a system: the bar before it and its last bar, its force as it counts, and its badness
 unfoldable pub listed_system : List Span → SystemMarks → Placed → List ℕ
 listed_system spans m p =
-    codes "system " ++ decimal m.a ++ codes " " ++ decimal m.b ++ codes " force " ++ decimal p.force
-    ++ codes " badness " ++ decimal (badness_in spans m.a m.b) ++ 10 ∷ []
+    codes "system " ++ decimal m.a ++ code " " ∷ decimal m.b ++ codes " force " ++ decimal p.force
+    ++ codes " badness " ++ decimal (badness_in spans m.a m.b) ++ codes "\n"
 
 -- the systems in order, each with the places of its columns
 abbrev pub system_lines : List Span → List SystemMarks → List Placed → List ℕ
@@ -28,7 +29,7 @@ system_lines spans (m ∷ ms) (p ∷ ps) = listed_system spans m p ++ system_lin
 unfoldable pub listed_tune : ℕ → SetTune → List ℕ
 listed_tune ordinal t =
     codes "tune " ++ decimal ordinal ++ codes " measures " ++ decimal t.score.measures ++ codes " total "
-    ++ decimal t.breaking.total ++ 10 ∷ []
+    ++ decimal t.breaking.total ++ codes "\n"
 
 abbrev pub tune_lines : ℕ → SetTune → List ℕ
 tune_lines ordinal t = listed_tune ordinal t ++ system_lines t.spans t.systems t.placed

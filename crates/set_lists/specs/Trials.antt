@@ -12,7 +12,7 @@ trial_text t =
     codes "trial " ++ decimal t.tunes ++ codes " set " ++ decimal t.set ++ codes " refused " ++ decimal t.refused
     ++ codes " systems " ++ decimal t.systems ++ codes " pages " ++ decimal t.pages ++ codes " bytes "
     ++ decimal t.bytes
-    ++ codes " total " ++ decimal t.total ++ 10 ∷ []
+    ++ codes " total " ++ decimal t.total ++ codes "\n"
 
 abbrev pub is_set : Outcome → Bool
 is_set outcome = is_ok outcome.result
