@@ -1,4 +1,5 @@
 -- Stored weights: the count becomes too large at the same places as without caps.
+use Rattle.mus_score.specs.Limits.{head_limit}
 use Rattle.std.proofs.Common.{◌≡◌, ◌∙◌, refl, ap, ℕ, ◌+◌, ◌≤◌, min, List, [], ◌∷◌, ◌++◌, map, Bool, true, false, cond}
 use Rattle.std.proofs.Common.{arith}
 use Rattle.std.proofs.lemmas.Bool.Decides.{nat_tests}
@@ -16,7 +17,7 @@ capped_append xs ys = map-append capped xs ys
 -- a count with caps, and the whole count: equal if it is not too large
 pub record IsCapped (few all : ℕ) : Type 0 where
   pub below : few ≤ all
-  pub same : few ≤ 50000 → few ≡ all
+  pub same : few ≤ head_limit → few ≡ all
 
 both : (a b x y m n : ℕ) → IsCapped a b → IsCapped x y → m ≡ a + x → n ≡ b + y → IsCapped m n
 both a b x y m n h i e f = record {
@@ -39,11 +40,11 @@ crowd_capped (v ∷ ws) w =
     both (count_up_to (capped w) (capped v)) (count_up_to w v) (crowd_up_to (map capped ws) (capped w))
     (crowd_up_to ws w) _ _ (count_capped w v) (crowd_capped ws w) few (sum_by-cons (count_up_to w) v ws)
 
-same_test : (few all : ℕ) → IsCapped few all → nat_lt 50000 few ≡ nat_lt 50000 all
-same_test few all h = by_test (nat_lt 50000 few) refl where
-  by_test : (b : Bool) → nat_lt 50000 few ≡ b → nat_lt 50000 few ≡ nat_lt 50000 all
+same_test : (few all : ℕ) → IsCapped few all → nat_lt head_limit few ≡ nat_lt head_limit all
+same_test few all h = by_test (nat_lt head_limit few) refl where
+  by_test : (b : Bool) → nat_lt head_limit few ≡ b → nat_lt head_limit few ≡ nat_lt head_limit all
   by_test true e = let below = h.below in grind (arith, nat_tests)
-  by_test false e = let same : few ≡ all = h.same (grind (arith, nat_tests)) in ap (nat_lt 50000) same
+  by_test false e = let same : few ≡ all = h.same (grind (arith, nat_tests)) in ap (nat_lt head_limit) same
 
 same_faults : (all some : List Weight)
     → flat_map (crowd_faults_at (map capped all)) (map capped some) ≡ flat_map (crowd_faults_at all) some

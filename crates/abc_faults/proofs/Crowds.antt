@@ -1,4 +1,5 @@
 -- The first place up to which there are too many heads and rests.
+use Rattle.mus_score.specs.Limits.{head_limit}
 use Rattle.std.proofs.Common.{◌≡◌, ◌∙◌, refl, sym, ap, subst, ℕ, ◌+◌, ◌<◌, ◌≤◌, List, [], ◌∷◌, ◌++◌, length, drop, take}
 use Rattle.std.proofs.Common.{get_or, Bool, true, false, cond, Option, Some, None, ⊎_elim, arith}
 use Rattle.std.proofs.lemmas.List.{drop_more, take_all, take-append-drop}
@@ -108,13 +109,13 @@ crowd_at prefix w following order =
 
 -- ---- the faults
 abbrev IsCrowded : List Weight → Weight → Type 0
-IsCrowded ws w = 50000 < crowd_up_to ws w
+IsCrowded ws w = head_limit < crowd_up_to ws w
 
 crowded_is : (ws : List Weight) (w : Weight) → IsCrowded ws w → crowd_faults_at ws w ≡ crowd_fault w ∷ []
-crowded_is ws w h = let test : nat_lt 50000 (crowd_up_to ws w) ≡ true = grind (arith, nat_tests) in simp test
+crowded_is ws w h = let test : nat_lt head_limit (crowd_up_to ws w) ≡ true = grind (arith, nat_tests) in simp test
 
-not_crowded_is : (ws : List Weight) (w : Weight) → crowd_up_to ws w ≤ 50000 → crowd_faults_at ws w ≡ []
-not_crowded_is ws w h = let test : nat_lt 50000 (crowd_up_to ws w) ≡ false = grind (arith, nat_tests) in simp test
+not_crowded_is : (ws : List Weight) (w : Weight) → crowd_up_to ws w ≤ head_limit → crowd_faults_at ws w ≡ []
+not_crowded_is ws w h = let test : nat_lt head_limit (crowd_up_to ws w) ≡ false = grind (arith, nat_tests) in simp test
 
 at_head : (f : Fault) (fs : List Fault) → Contains (f ∷ fs) f
 at_head f fs = (0, omega arith, refl)
@@ -143,8 +144,8 @@ pub record IsFaultOf (all some : List Weight) (g : Fault) : Type 0 where
 
 own_fault : (all : List Weight) (w : Weight) (g : Fault)
     → Contains (crowd_faults_at all w) g → (g ≡ crowd_fault w) × IsCrowded all w
-own_fault all w g h = by_test (nat_lt 50000 (crowd_up_to all w)) refl h where
-  by_test : (b : Bool) → nat_lt 50000 (crowd_up_to all w) ≡ b → Contains (cond b (crowd_fault w ∷ []) []) g
+own_fault all w g h = by_test (nat_lt head_limit (crowd_up_to all w)) refl h where
+  by_test : (b : Bool) → nat_lt head_limit (crowd_up_to all w) ≡ b → Contains (cond b (crowd_fault w ∷ []) []) g
       → (g ≡ crowd_fault w) × IsCrowded all w
   by_test true e k = (is_alone (crowd_fault w) g k, grind (arith, nat_tests, e))
   by_test false e k = absurd (none_held g k)
@@ -172,7 +173,8 @@ fault_of all (w ∷ ws) g h =
 
 -- too many with a weight in the order of the text, but not before it
 first_at : (prefix : List Weight) (w : Weight) (following : List Weight)
-    → AreInOrder (prefix ++ w ∷ following) → sum_by count prefix ≤ 50000 → 50000 < sum_by count prefix + w.count
+    → AreInOrder (prefix ++ w ∷ following) → sum_by count prefix ≤ head_limit
+    → head_limit < sum_by count prefix + w.count
     → IsLeastFault (crowded (prefix ++ w ∷ following)) (crowd_fault w)
 first_at prefix w following order few many =
     let ws = prefix ++ w ∷ following in
@@ -194,7 +196,7 @@ first_at prefix w following order few many =
           ∙ by_test o.weight (stands_before o.weight w) refl o.crowd
 
 pub found_at : (ws : List Weight) (i left : ℕ) (d : Weight)
-    → AreInOrder ws → i < length ws → left + sum_by count (take i ws) ≡ 50000 → left < (get_or ws i d).count
+    → AreInOrder ws → i < length ws → left + sum_by count (take i ws) ≡ head_limit → left < (get_or ws i d).count
     → IsLeastFault (crowded ws) (crowd_fault (get_or ws i d))
 found_at ws i left d order less sum many =
     let w = get_or ws i d in
@@ -204,14 +206,14 @@ found_at ws i left d order less sum many =
     subst P (sym whole)
     (first_at (take i ws) w (drop (i + 1) ws) (subst AreInOrder whole order) (omega arith) (omega arith))
 
-none_among : (all some : List Weight) → sum_by count all ≤ 50000 → flat_map (crowd_faults_at all) some ≡ []
+none_among : (all some : List Weight) → sum_by count all ≤ head_limit → flat_map (crowd_faults_at all) some ≡ []
 none_among all [] few = refl
 none_among all (w ∷ ws) few =
     let own = not_crowded_is all w (omega (arith, crowd-le all w)) in
     ap (λ z. z ++ flat_map (crowd_faults_at all) ws) own ∙ none_among all ws few
 
 pub none_found : (ws : List Weight) (i left : ℕ)
-    → length ws ≤ i → left + sum_by count (take i ws) ≡ 50000 → crowded ws ≡ []
+    → length ws ≤ i → left + sum_by count (take i ws) ≡ head_limit → crowded ws ≡ []
 none_found ws i left done sum = none_among ws ws (omega (arith, ap (sum_by count) (take_all i ws done)))
 
 -- ---- the same weights in another order

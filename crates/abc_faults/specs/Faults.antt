@@ -1,5 +1,6 @@
 -- All faults of a voice, each at its place, from each step in turn with the steps before it, the nearest first, and
 -- the steps after it.
+use Rattle.mus_score.specs.Limits.{highest_head, lowest_head, measure_limit}
 use Rattle.std.specs.Prelude.{ℕ, ◌+◌, ◌-◌, List, [], ◌∷◌, ◌++◌, Bool, true, false, not, ◌&&◌, ◌||◌, nat_le, nat_lt}
 use Rattle.std.specs.Prelude.{int_lt, pos, negsuc, is_none, if◌then◌else◌, count_by, flat_map}
 use Rattle.std.specs.List.{before_first, list_any}
@@ -54,7 +55,7 @@ tuplet_faults r open_ones at following =
 
 -- Heads. They range from 14 steps below the bottom line of the staff to 22 above it.
 abbrev pub is_off : Clef → Head → Bool
-is_off clef head = let height = height_of head.pitch clef in int_lt height (negsuc 13) || int_lt (pos 22) height
+is_off clef head = let height = height_of head.pitch clef in int_lt height lowest_head || int_lt highest_head height
 
 abbrev pub any_off : Clef → List Head → Bool
 any_off clef heads = list_any (is_off clef) heads
@@ -72,7 +73,7 @@ grace_faults clef waits = flat_map (λ s. grace_faults_of clef s s.step) waits
 
 -- a measure past the two thousandth, counted from 0
 abbrev pub is_past : ℕ → Bool
-is_past measure = nat_le 2000 measure
+is_past measure = nat_le measure_limit measure
 
 abbrev pub is_free : Meter → Bool
 is_free Meter.Free = true

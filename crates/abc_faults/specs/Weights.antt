@@ -1,4 +1,5 @@
 -- How many heads and rests are at each place, and where there are too many of them so far.
+use Rattle.mus_score.specs.Limits.{head_limit}
 use Rattle.std.specs.Prelude.{◌≡◌, ⊤, false, ℕ, ◌*◌, List, [], ◌∷◌, ◌++◌, length, max, min, Bool, nat_lt, if◌then◌else◌}
 use Rattle.std.specs.Prelude.{sum_by, flat_map, Option, Some, None}
 use Rattle.std.specs.List.{AllByRecursion}
@@ -83,7 +84,7 @@ abbrev pub crowd_fault : Weight → Fault
 crowd_fault w = record { kind = FaultKind.TooManyEvents; line = w.line; column = w.column }
 
 abbrev pub crowd_faults_at : List Weight → Weight → List Fault
-crowd_faults_at weights w = if nat_lt 50000 (crowd_up_to weights w) then crowd_fault w ∷ [] else []
+crowd_faults_at weights w = if nat_lt head_limit (crowd_up_to weights w) then crowd_fault w ∷ [] else []
 
 abbrev pub crowded : List Weight → List Fault
 crowded weights = flat_map (crowd_faults_at weights) weights

@@ -2,8 +2,9 @@ ghost use Rattle.std.specs.{Prelude.◌≡◌, Prelude.IfOk, List.Sorted.IsPermu
 ghost use Rattle.abc_faults.specs.First.{first_of, IsFirstInOrder};
 ghost use Rattle.abc_faults.specs.Weights.{AreInOrder, crowded, crowd_fault};
 
-use crate::weights::{MOST, Weight};
+use crate::weights::Weight;
 use abc_lines::{Fault, FaultKind};
+use mus_score::HEAD_LIMIT;
 use mus_units::{Memory, Row};
 use std::alloc::Global;
 
@@ -22,7 +23,7 @@ fn first_crowded(weights: &[Weight]) -> Option<Fault>
     requires { AreInOrder weights.now }
     ensures { IsFirstInOrder (crowded weights.now) result }
 {
-    let mut left = MOST;
+    let mut left = HEAD_LIMIT;
     for w in weights {
         if w.count > left {
             return Some(crowd_fault(*w));

@@ -16,6 +16,7 @@ use abc_steps::looks::{has_left, has_right, since_event};
 use abc_steps::state::{VoiceState, measure_of};
 use abc_steps::tuplets::{fits, or_default};
 use abc_steps::{OpenTuplets, PlacedStep, Step, StoredSound};
+use mus_score::{HIGHEST_HEAD, LOWEST_HEAD, MEASURE_LIMIT};
 use mus_units::{Clef, Few, Head, Memory, Meter, Row, Value, height};
 
 fn step_fault(kind: FaultKind, at: &PlacedStep) -> Fault
@@ -92,7 +93,7 @@ fn is_off(clef: Clef, head: Head) -> bool
     ensures { result ≡ is_off clef head }
 {
     let height = height(head.pitch, clef);
-    height < -14 || 22 < height
+    height < LOWEST_HEAD || HIGHEST_HEAD < height
 }
 
 fn any_off(clef: Clef, heads: &[Head]) -> bool
@@ -137,7 +138,7 @@ fn grace_fault(clef: Clef, waits: &[PlacedStep]) -> Option<Fault>
 fn is_past(measure: u64) -> bool
     ensures { result ≡ is_past measure }
 {
-    measure >= 2000
+    measure >= u64::from(MEASURE_LIMIT)
 }
 
 fn is_free(meter: Meter) -> bool

@@ -4,13 +4,11 @@ ghost use Rattle.abc_faults.specs.Weights.{grace_weights};
 
 use abc_music::GraceChord;
 use abc_steps::{PlacedStep, Step, StoredSound};
+use mus_score::HEAD_LIMIT;
 use mus_units::{Few, Memory, Row, Value};
 
-/// The greatest number of heads and rests that a tune may have.
-pub(crate) const MOST: u32 = 50_000;
-
-/// The number of heads and rests at a place of the text, or `MOST` plus one if there are more. Weights are ordered by
-/// their places, then by their counts.
+/// The number of heads and rests at a place of the text, or `HEAD_LIMIT` plus one if there are more. Weights are
+/// ordered by their places, then by their counts.
 #[derive(Clone, Copy, PartialEq, Eq, PartialOrd, Ord)]
 pub struct Weight {
     pub line: u32,
@@ -24,7 +22,7 @@ pub(crate) fn weight_at(count: u128, at: &PlacedStep) -> Weight
     Weight {
         line: at.line,
         column: at.column,
-        count: count.min(u128::from(MOST) + 1) as u32,
+        count: count.min(u128::from(HEAD_LIMIT) + 1) as u32,
     }
 }
 

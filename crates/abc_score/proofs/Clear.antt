@@ -1,4 +1,5 @@
 -- What a score without faults guarantees: no voice has too many verses, and there are at most 2000 measures.
+use Rattle.mus_score.specs.Limits.{measure_limit}
 use Rattle.std.specs.Prelude.{fold, max, flat_map, is_none}
 use Rattle.std.specs.List.{All, AllByRecursion}
 use Rattle.std.proofs.Common.{append_assoc, Bool, true, false}
@@ -36,7 +37,7 @@ pub record IsClearSound (now : VoiceState) (before following : Steps) (s : Writt
   pub drawn : let whole = written_length now.force.unit s before following in
       is_none (parts_list whole.num whole.den) ≡ false
   pub near : any_off now.force.clef s.heads ≡ false
-  pub within : measure_of now < 2000
+  pub within : measure_of now < measure_limit
   pub graces : grace_faults now.force.clef (since_event before) ≡ []
 
 pub sound_clear : (now : VoiceState) (before following : Steps) (at : PlacedStep) (s : WrittenSound)
@@ -48,14 +49,14 @@ sound_clear now before following at s e =
     record {
       drawn = no_fault _ _ _ (none_before _ _ both);
       near = no_fault _ _ _ (none_after _ _ both);
-      within = leb-false 2000 _ (no_fault _ _ _ (none_after _ _ own));
+      within = leb-false measure_limit _ (no_fault _ _ _ (none_after _ _ own));
       graces = none_after _ _ e;
     }
 
 -- whole measure rests without faults
 pub record IsClearRest (now : VoiceState) (before : Steps) (count : ℕ) : Type 0 where
   pub metered : is_free now.force.meter ≡ false
-  pub within : measure_of now + (count - 1) < 2000
+  pub within : measure_of now + (count - 1) < measure_limit
   pub graces : grace_faults now.force.clef (since_event before) ≡ []
 
 pub rest_clear : (now : VoiceState) (before following : Steps) (at : PlacedStep) (seen : Bool) (count : ℕ)
@@ -66,15 +67,15 @@ rest_clear now before following at seen count e =
     let own = none_before _ _ e in
     record {
       metered = no_fault _ _ _ (none_before _ _ own);
-      within = leb-false 2000 _ (no_fault _ _ _ (none_after _ _ own));
+      within = leb-false measure_limit _ (no_fault _ _ _ (none_after _ _ own));
       graces = none_after _ _ e;
     }
 
 -- one more step: an event without a fault is in a good measure
 step_within : (first : InForce) (before following : Steps) (at : PlacedStep) (s : Step)
     → faults_of (state_at first before) before at following s ≡ []
-    → measures_begun before ≤ 2000
-    → cond (is_event s) (measure_at before + further_measures s + 1) (measures_begun before) ≤ 2000
+    → measures_begun before ≤ measure_limit
+    → cond (is_event s) (measure_at before + further_measures s + 1) (measures_begun before) ≤ measure_limit
 unfolding is_event further_measures
 step_within first before following at (Step.Sound s) e few =
     let clear = sound_clear (state_at first before) before following at s e in omega (arith, clear.within)
@@ -88,18 +89,18 @@ turned at following before =
     sym (ap (λ z. z ++ before) (reverse-append (at ∷ []) following) ∙ append_assoc (reverse following) (at ∷ []) before)
 
 walk_within : (first : InForce) (before following : Steps)
-    → faults_in first before following ≡ [] → measures_begun before ≤ 2000
-    → measures_begun (reverse following ++ before) ≤ 2000
+    → faults_in first before following ≡ [] → measures_begun before ≤ measure_limit
+    → measures_begun (reverse following ++ before) ≤ measure_limit
 walk_within first before [] e few = few
 walk_within first before (at ∷ following) e few =
-    subst (λ (z : Steps). measures_begun z ≤ 2000) (turned at following before)
+    subst (λ (z : Steps). measures_begun z ≤ measure_limit) (turned at following before)
     (walk_within first (at ∷ before) following (none_after _ _ e)
     (step_within first before following at at.step (none_before _ _ e) few))
 
 -- ---- voices
-own_within : (v : ReadVoice) → faults_in v.first [] v.steps ≡ [] → own_measures v ≤ 2000
+own_within : (v : ReadVoice) → faults_in v.first [] v.steps ≡ [] → own_measures v ≤ measure_limit
 own_within v e =
-    subst (λ (z : Steps). measures_begun z ≤ 2000) (append-nil (reverse v.steps))
+    subst (λ (z : Steps). measures_begun z ≤ measure_limit) (append-nil (reverse v.steps))
     (walk_within v.first [] v.steps e (omega arith))
 
 -- voices without faults, by themselves and for their verses
@@ -124,10 +125,11 @@ voices_clear unnamed items voices e = each_clear unnamed items voices (none_befo
 
 pub few_measures : (unnamed : List ℕ) (items : List BodyItem) (voices : List ReadVoice)
     → AllByRecursion (IsClearVoice unnamed items) voices
-    → most_measures voices ≤ 2000
+    → most_measures voices ≤ measure_limit
 few_measures unnamed items voices clear = most_within voices 0 clear (omega arith) where
-  most_within : (voices : List ReadVoice) (most : ℕ) → AllByRecursion (IsClearVoice unnamed items) voices → most ≤ 2000
-      → fold max most (map own_measures voices) ≤ 2000
+  most_within : (voices : List ReadVoice) (most : ℕ)
+      → AllByRecursion (IsClearVoice unnamed items) voices → most ≤ measure_limit
+      → fold max most (map own_measures voices) ≤ measure_limit
   most_within [] most clear few = few
   most_within (v ∷ voices) most clear few =
       most_within voices (max most (own_measures v)) clear.1

@@ -1,4 +1,5 @@
 -- Enough faults and weights determine the first fault of all.
+use Rattle.mus_score.specs.Limits.{head_limit}
 use Rattle.std.proofs.{Common.{true, false, Option, Some}, lemmas.List.Sums.sum_by-append, Math.Logic.⊎_map}
 use Rattle.std.proofs.Common.{None, ⊎_elim, inl, inr, arith, ◌≡◌, ◌∙◌, refl, sym, ap, subst, List, [], ◌∷◌, ◌++◌}
 use Rattle.std.proofs.Common.{append_assoc, append-nil, map, Bool}
@@ -29,7 +30,7 @@ back_within xs ys w = (Contains-append_right xs ys w, omega (arith, sum_by-appen
 
 -- ---- after a crowd
 pub enough_after : (some hidden : List Fault) (put light : List Weight) (at : Weight)
-    → Contains put at → 50000 < crowd_up_to put at
+    → Contains put at → head_limit < crowd_up_to put at
     → AllByRecursion (λ f. is_before f (crowd_fault at) ≡ false) hidden → AllByRecursion (IsAfter at) light
     → AreEnough some (some ++ hidden) put (put ++ light)
 enough_after some hidden put light at held crowd late following = record {

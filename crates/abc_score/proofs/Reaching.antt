@@ -1,4 +1,5 @@
 -- Heads and graces of a voice without faults are within reach, in the clef at their event.
+use Rattle.mus_score.specs.Limits.{highest_head, lowest_head}
 use Rattle.std.proofs.lemmas.Int.{ints}
 use Rattle.std.proofs.lemmas.List.Folds.{list_any-append}
 use Rattle.std.proofs.lemmas.Bool.{or_parts}
@@ -27,7 +28,8 @@ use Rattle.abc_score.proofs.Clear.{no_fault, rest_clear, sound_clear}
 use Rattle.abc_score.proofs.{Parts.{SignsReach, heads_reach, DoReach}, Since.{since_none, since_on}}
 
 -- ---- heads and graces
-height_reach : (z : ℤ) → int_lt z (negsuc 13) ≡ false → int_lt (pos 22) z ≡ false → (negsuc 13 ≤ℤ z) × (z ≤ℤ pos 22)
+height_reach : (z : ℤ)
+    → int_lt z lowest_head ≡ false → int_lt highest_head z ≡ false → (lowest_head ≤ℤ z) × (z ≤ℤ highest_head)
 height_reach z low high = (grind (arith, ints), grind (arith, ints))
 
 all_reach : (clef : Clef) (hs : List Head) → any_off clef hs ≡ false → DoReach clef hs

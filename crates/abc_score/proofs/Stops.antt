@@ -1,4 +1,5 @@
 -- After an event with which there are too many heads and rests there is no first fault.
+use Rattle.mus_score.specs.Limits.{head_limit}
 use Rattle.std.proofs.Common.{append_assoc, append-nil, take, reverse, get_or, map}
 use Rattle.std.specs.Prelude.{◌<◌}
 use Rattle.std.specs.List.{AllByRecursion, Contains, list_all}
@@ -223,7 +224,7 @@ judged_to {at = at} {following = following} {old = old} {new = new} first steps 
     let event = event_weight (state_at first before) before at following at.step end.event in
     let w = weight_at event.0 at in
     let few = ap (λ z. crowd_up_to z (weight_at 0 at)) own ∙ same_crowd (map capped h.weights) 0 (min 0 50001) at in
-    let crowd : 50000 < crowd_up_to h.weights w =
+    let crowd : head_limit < crowd_up_to h.weights w =
     omega (arith, end.crowd, few, (crowd_capped h.weights (weight_at 0 at)).below, same_crowd h.weights event.0 0 at) in
     let IsLate : Fault → Type 0 = λ f. is_before f (crowd_fault w) ≡ false in
     let late = faults_at IsLate first (at ∷ before) following (none_wait (AtStep IsLate) at before end.event)

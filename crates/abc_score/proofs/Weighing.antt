@@ -1,5 +1,6 @@
 -- The tree items of a voice weigh at most as much as its steps, and those of all voices at most 50,000 if they are
 -- not crowded.
+use Rattle.mus_score.specs.Limits.{head_limit}
 use Rattle.std.proofs.Common.{⊎_elim, ◌≡◌, ◌∙◌, refl, sym, ap, subst, ℕ, zero, suc, ◌+◌, ◌-◌, ◌*◌, ◌≤◌, max, List, []}
 use Rattle.std.proofs.Common.{◌∷◌, sum_by, length, Bool}
 use Rattle.std.proofs.Common.{true, false, cond, Option, Some, None, mul_comm, mul-le-mul_left, arith}
@@ -185,11 +186,11 @@ all_count m (w ∷ ws) all =
     let here : count_up_to m w ≡ w.count = ap (λ b. cond b 0 w.count) all.0 in
     omega (arith, sum_by-cons (count_up_to m) w ws, here, all_count m ws all.1, sum_by-cons count w ws)
 
-pub not_crowded : (ws : List Weight) → crowded ws ≡ [] → sum_by count ws ≤ 50000
+pub not_crowded : (ws : List Weight) → crowded ws ≡ [] → sum_by count ws ≤ head_limit
 not_crowded [] e = omega arith
 not_crowded (w ∷ ws) e =
     let o = latest_of w ws in let whole = all_count o.weight (w ∷ ws) o.following in
     ⊎_elim (λ more.
     let held = subst (λ fs. Contains fs (crowd_fault o.weight)) e (crowd_held (w ∷ ws) o.weight o.held more) in
     absurd (omega (arith, held.1)))
-    (λ few. omega (arith, few, whole)) (cases_lt 50000 (crowd_up_to (w ∷ ws) o.weight))
+    (λ few. omega (arith, few, whole)) (cases_lt head_limit (crowd_up_to (w ∷ ws) o.weight))

@@ -1,4 +1,5 @@
 -- A score of voices without faults is good.
+use Rattle.mus_score.specs.Limits.{head_limit, measure_limit}
 use Rattle.std.proofs.Common.{◌≡◌, ◌∙◌, refl, sym, ap, subst, ℕ, suc, ◌+◌, ◌≤◌, ◌<◌, List, [], ◌∷◌, map, sum_by, length}
 use Rattle.std.proofs.Common.{le_trans, Bool, arith}
 use Rattle.std.proofs.lemmas.List.Elements.{All-from_recursion, recursion_from_All, All-map}
@@ -124,7 +125,7 @@ module _ (header : Header) (items : List BodyItem) (n : ℕ) where
       (sym (measures_weigh (leaves_with v) (bars_of v.steps n) (rise_in v is))) (leaves_light v is)
 
   body_good : (v : ReadVoice)
-      → IsKnown v → sum_by count (voice_weights v) ≤ 50000 → (k : ℕ)
+      → IsKnown v → sum_by count (voice_weights v) ≤ head_limit → (k : ℕ)
       → IsGoodBody (tree_of (leaves_in k (leaves_with v)))
   body_good v is few k =
       let ls = leaves_in k (leaves_with v) in
@@ -132,11 +133,12 @@ module _ (header : Header) (items : List BodyItem) (n : ℕ) where
       record {
         good = nested_good ls (all_full (words_in v) k v.first v.steps is.read.first is.read.steps is.clear.own drawn);
         few =
-            subst (λ n. n ≤ 50000) (sym (tree_weight ls))
+            subst (λ n. n ≤ head_limit) (sym (tree_weight ls))
             (le_trans (weight_in k (leaves_with v)) (le_trans (leaves_light v is) few));
       }
 
-  voice_good : (v : ReadVoice) → HasGoodValues header → n ≤ 2000 → IsKnown v → sum_by count (voice_weights v) ≤ 50000
+  voice_good : (v : ReadVoice)
+      → HasGoodValues header → n ≤ measure_limit → IsKnown v → sum_by count (voice_weights v) ≤ head_limit
       → IsGoodVoice (voice_by_header header items n v)
   unfolding voice_by_header written_measures
   voice_good v good most is few =
@@ -150,7 +152,7 @@ module _ (header : Header) (items : List BodyItem) (n : ℕ) where
       let good_words = signs_good words verses 0 0 ss whole
       (λ j less. each_words v.start.id (unnamed_of header) items ss j (omega (arith, less))) in
       record {
-        few_measures = subst (λ k. k ≤ 2000) (sym (length_voice header items n v)) most;
+        few_measures = subst (λ k. k ≤ measure_limit) (sym (length_voice header items n v)) most;
         few_verses =
             few_verses (verses_of_voice v.start.id (unnamed_of header) items) (row_count items) is.clear.verses;
         near = omega arith;
@@ -168,8 +170,8 @@ module _ (header : Header) (items : List BodyItem) (n : ℕ) where
       }
 
   -- ---- all voices
-  voices_good : (voices : List ReadVoice) → HasGoodValues header → n ≤ 2000 → AllByRecursion IsKnown voices
-      → sum_by count (flat_map voice_weights voices) ≤ 50000
+  voices_good : (voices : List ReadVoice) → HasGoodValues header → n ≤ measure_limit → AllByRecursion IsKnown voices
+      → sum_by count (flat_map voice_weights voices) ≤ head_limit
       → AllByRecursion IsGoodVoice (map (voice_by_header header items n) voices)
   voices_good [] good most all few = tt
   voices_good (v ∷ voices) good most all few =

@@ -1,4 +1,5 @@
 -- Judged voices, and which of their tree items are kept.
+use Rattle.mus_score.specs.Limits.{head_limit}
 use Rattle.std.specs.Prelude.{◌≡◌, ◌≤◌, ◌<◌, ◌⊎◌, ◌++◌, [], List, Option, map, reverse, Bool, true, false}
 use Rattle.std.specs.List.{Contains, list_all}
 use Rattle.abc_lines.specs.declared.fault.Fault.{Fault}
@@ -43,14 +44,14 @@ is_idle _ = false
 -- there are too many heads and rests up to an event, and the steps that follow it are placed after it
 pub record IsCrowdedAt (put : List Weight) (at : PlacedStep) (following : Steps) : Type 0 where
   pub event : is_event at.step ≡ true
-  pub crowd : 50000 < crowd_up_to put (weight_at 0 at)
+  pub crowd : head_limit < crowd_up_to put (weight_at 0 at)
   pub later : list_all (λ (s : PlacedStep). stands_before (weight_at 0 at) (weight_at 0 s)) following ≡ true
 
 -- there are too many up to a place, and a fault is not before that place
 pub record HasCrowd (put : List Weight) (f : Fault) : Type 0 where
   pub at : Weight
   pub held : Contains put at
-  pub crowd : 50000 < crowd_up_to put at
+  pub crowd : head_limit < crowd_up_to put at
   pub following : is_before f (crowd_fault at) ≡ false
 
 -- some weights are among others up to a weight

@@ -19,14 +19,15 @@ use abc_steps::kinds::is_event;
 use abc_steps::lengths::parts_at;
 use abc_steps::state::{VoiceState, beginning, step_over};
 use abc_steps::{PlacedStep, Step};
+use mus_score::HEAD_LIMIT;
 use mus_units::{Few, Memory, Row, Value};
 use std::alloc::Global;
 
 /// The greatest number of tree items kept for a voice; those of a longer one are read again.
-const MOST_KEPT: usize = 50_000;
+const MOST_KEPT: usize = HEAD_LIMIT as usize;
 
 /// The greatest number of heads and rests that a tune may have.
-const MOST_HEADS: usize = 50_000;
+const MOST_HEADS: usize = HEAD_LIMIT as usize;
 
 /// The tree items of a voice and the number of its measures, if `whole` is true.
 #[derive(Drop)]

@@ -1,3 +1,4 @@
+ghost use Rattle.mus_score.specs.Limits.{measure_limit};
 ghost use Rattle.std.specs.{Prelude.ℕ, Prelude.◌≡◌, Prelude.◌≤◌, Prelude.map, Prelude.IfOk, Prelude.None, List.All};
 ghost use Rattle.abc_items.specs.Voices.{unnamed_of};
 ghost use Rattle.abc_words.specs.Verses.{verse_count, verse_fault};
@@ -175,7 +176,7 @@ pub fn score_with(
     requires kept { All HasKept voices }
     requires clear { All (λ (j : JudgedVoice). verse_fault j.read.start.id (unnamed_of header.now) items.now ≡ None)
         voices }
-    requires few { most_measures (reads_of voices) ≤ 2000 }
+    requires few { most_measures (reads_of voices) ≤ measure_limit }
     ensures { IfOk result (λ score. score ≡ score_with header.now items.now flow (reads_of voices)) }
 {
     let n = most_measures(voices.as_slice()) as u32;

@@ -1,5 +1,6 @@
 //! The changes of a voice, which voices of one staff must have in common.
 
+ghost use Rattle.mus_score.specs.Limits.{head_limit, measure_limit};
 ghost use Rattle.std.specs.Prelude.{◌≡◌, ◌≤◌, ◌*◌, ◌++◌, All, length, IfOk, OnOk};
 ghost use Rattle.mus_score.specs.Good.{IsGoodBody, longest_ticks, total_ticks};
 ghost use Rattle.mus_score.specs.GoodScore.{IsGoodVoice};
@@ -41,7 +42,7 @@ pub(crate) fn story_of(alloc: Global, v: &Voice) -> Result<VoiceChanges, Memory>
 
 fn changes_of(alloc: Global, measures: &[Measure]) -> Result<Row<TimedChange>, Memory>
     requires good { All (λ m. IsGoodBody m.body) measures.now }
-    requires few { length measures.now ≤ 2000 }
+    requires few { length measures.now ≤ measure_limit }
     ensures { IfOk result (λ changes. changes ≡ changes_from 0 measures.now) }
 {
     let mut changes = Row::new(alloc);
@@ -59,7 +60,7 @@ fn put_changes(
     measure: u32,
     flats: &[Flat<'_>],
 ) -> Result<(), Memory>
-    requires { total_ticks flats.now ≤ 50000 * longest_ticks }
+    requires { total_ticks flats.now ≤ head_limit * longest_ticks }
     ensures { OnOk result (changes.new ≡ changes.old ++ event_changes measure 0 flats.now) }
 {
     let mut tick = 0;

@@ -1,3 +1,4 @@
+ghost use Rattle.mus_score.specs.Limits.{head_limit, measure_limit};
 ghost use Rattle.std.specs.Prelude.{◌≡◌, ◌++◌, ◌∷◌, [], ◌≤◌, not, length, map, IfOk, OnOk};
 ghost use Rattle.std.specs.List.{All, list_all};
 ghost use Rattle.mus_score.specs.GoodScore.{IsGoodVoice};
@@ -22,7 +23,7 @@ pub struct ArcEvent {
 pub(crate) fn events_of_voice(alloc: Global, v: &Voice) -> Result<Row<ArcEvent>, Memory>
     requires { IsGoodVoice v.now }
     ensures events { IfOk result (λ events. events ≡ events_of_voice v.now) }
-    ensures heads { IfOk result (λ events. All (λ e. length e.heads ≤ 50000) events) }
+    ensures heads { IfOk result (λ events. All (λ e. length e.heads ≤ head_limit) events) }
 {
     let mut events = Row::new(alloc);
     put_measures(alloc, v.measures.as_slice(), &mut events)?;
@@ -34,7 +35,7 @@ fn put_measures(
     measures: &[Measure],
     events: &mut Row<ArcEvent>,
 ) -> Result<(), Memory>
-    requires { length measures.now ≤ 2000 }
+    requires { length measures.now ≤ measure_limit }
     ensures { OnOk result (events.new ≡ events.old ++ walked_from 0 measures.now) }
 {
     for (number, measure) in measures.iter().enumerate() {

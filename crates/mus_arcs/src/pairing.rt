@@ -1,3 +1,4 @@
+ghost use Rattle.mus_score.specs.Limits.{head_limit};
 ghost use Rattle.std.specs.Prelude.{◌≡◌, ◌++◌, ◌∷◌, [], ◌≤◌, length, reverse, drop, IfOk, OnOk};
 ghost use Rattle.std.specs.List.{All, list_any};
 ghost use Rattle.{mus_units.specs.Good.{same_letter}, mus_score.specs.GoodScore.{IsGoodVoice}};
@@ -50,7 +51,7 @@ pub fn arcs(alloc: Global, v: &Voice) -> Result<Row<Arc>, Memory>
 
 /// Returns the arcs of events, found from the last event back.
 fn arcs_among(alloc: Global, events: &[ArcEvent]) -> Result<Row<Arc>, Memory>
-    requires { All (λ e. length e.heads ≤ 50000) events.now }
+    requires { All (λ e. length e.heads ≤ head_limit) events.now }
     ensures { IfOk result (λ arcs. arcs ≡ arcs_of events.now) }
 {
     let mut backwards = Vec::new(alloc);
@@ -70,7 +71,7 @@ fn put_arcs(
     ends: &mut Vec<SlurEnd>,
     backwards: &mut Vec<Arc>,
 ) -> Result<(), Memory>
-    requires heads { length event.now.heads ≤ 50000 }
+    requires heads { length event.now.heads ≤ head_limit }
     requires ends { reverse ends.old.items ≡ open_ends following.now }
     ensures ends { OnOk result (reverse ends.new.items ≡ open_ends (event.now ∷ following.now)) }
     ensures arcs { OnOk result
@@ -146,7 +147,7 @@ fn put_ties(
     following: &[ArcEvent],
     backwards: &mut Vec<Arc>,
 ) -> Result<(), Memory>
-    requires { length event.now.heads ≤ 50000 }
+    requires { length event.now.heads ≤ head_limit }
     ensures { OnOk result (backwards.new.items ≡ backwards.old.items ++ reverse (ties_at event.now following.now)) }
 {
     let [next, ..] = following else {

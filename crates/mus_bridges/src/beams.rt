@@ -1,3 +1,4 @@
+ghost use Rattle.mus_score.specs.Limits.{measure_limit};
 ghost use Rattle.std.specs.Prelude.{◌≡◌, ◌≤◌, ◌+◌, ◌++◌, length, flat_map, OnOk};
 ghost use Rattle.mus_drawn.specs.Good.{AreGoodDrawn, AreGoodMeasures, IsGoodDrawn};
 ghost use Rattle.mus_bridges.specs.Bridges.{beams_between, beam_over, event_grace_beam, grace_beams_between};
@@ -15,7 +16,7 @@ pub(crate) fn put_beams_between(
     a: u32,
     measures: &[DrawnMeasure<'_>],
 ) -> Result<(), Memory>
-    requires { a + length measures.now ≤ 2000 }
+    requires { a + length measures.now ≤ measure_limit }
     ensures { OnOk result (out.new ≡ out.old ++ beams_between a measures.now) }
 {
     let mut measure = a;
@@ -65,7 +66,7 @@ pub(crate) fn put_grace_beams_between(
     a: u32,
     measures: &[DrawnMeasure<'_>],
 ) -> Result<(), Memory>
-    requires few { a + length measures.now ≤ 2000 }
+    requires few { a + length measures.now ≤ measure_limit }
     requires good { AreGoodMeasures measures.now }
     ensures { OnOk result (out.new ≡ out.old ++ grace_beams_between a measures.now) }
 {

@@ -1,4 +1,5 @@
 -- A good voice gives a good drawn voice.
+use Rattle.mus_score.specs.Limits.{head_limit}
 use Rattle.std.proofs.Common.{◌≡◌, ◌≤◌, ◌+◌, ℕ, List, [], ◌∷◌, ◌++◌, length, map, max, refl, sym, ap, ◌∙◌, subst, arith}
 use Rattle.std.proofs.lemmas.List.Elements.{All-head, All-tail}
 use Rattle.std.proofs.lemmas.List.Sums.{sum_by-cons}
@@ -41,7 +42,7 @@ old_good key None good = λ letter. omega arith
 old_good key (Some new) good = good
 
 graces_good : (clef : Clef) (graces : List Event)
-    → All (λ g. All (IsInReach clef) g.heads) graces → head_count graces ≤ 50000 → AllCanGrace clef graces
+    → All (λ g. All (IsInReach clef) g.heads) graces → head_count graces ≤ head_limit → AllCanGrace clef graces
 graces_good clef [] h few = tt
 graces_good clef (g ∷ graces) h few =
     let sum = sum_by-cons (λ (e : Event). length e.heads) g graces in (
@@ -53,12 +54,12 @@ graces_good clef (g ∷ graces) h few =
     )
 
 few_in : (f : Flat) (n : ℕ)
-    → max 1 (length f.event.heads) + head_count f.graces + n ≤ 50000 → head_count f.graces ≤ 50000
+    → max 1 (length f.event.heads) + head_count f.graces + n ≤ head_limit → head_count f.graces ≤ head_limit
 few_in f n h = omega (arith, h)
 
 drawn_good : (style : Style) (tick : ℕ) (now : StaffState) (fs : List Flat) (ps : List StemPlan)
-    → IsGoodKey now.key → AreInReach now.clef fs → AllCanDraw fs → AllEndsNear ps → sum_by flat_weight fs ≤ 50000
-    → sum_by flat_count fs ≤ 50000
+    → IsGoodKey now.key → AreInReach now.clef fs → AllCanDraw fs → AllEndsNear ps → sum_by flat_weight fs ≤ head_limit
+    → sum_by flat_count fs ≤ head_limit
     → AreGoodDrawn (drawn_events style tick now fs ps)
 drawn_good style tick now [] ps good reach can near few count = tt
 drawn_good style tick now (f ∷ fs) [] good reach can near few count = tt
@@ -83,8 +84,9 @@ drawn_good style tick now (f ∷ fs) (p ∷ ps) good reach can near few count =
 pub measure_good : (style : Style) (now : StaffState) (fs flats : List Flat) (plans : List StemPlan) (o : SystemOpening)
     (es : List DrawnEvent) (bar : Bar)
     → flats ≡ fs → o ≡ opening_of now flats → es ≡ drawn_events style 0 now flats plans
-    → IsGoodKey now.key → AreInReach now.clef fs → AllCanDraw fs → AllEndsNear plans → sum_by flat_weight flats ≤ 50000
-    → sum_by flat_count flats ≤ 50000
+    → IsGoodKey now.key → AreInReach now.clef fs → AllCanDraw fs → AllEndsNear plans
+    → sum_by flat_weight flats ≤ head_limit
+    → sum_by flat_count flats ≤ head_limit
     → IsGoodMeasure (record { seat = style.seat; opening = o; events = es; bar = bar })
 measure_good style now fs flats plans o es bar same opens made good reach can near few count =
     let can_here = subst AllCanDraw (sym same) can in let reach_here = subst (AreInReach now.clef) (sym same) reach in

@@ -1,4 +1,5 @@
 -- Events within reach of the staff can be drawn.
+use Rattle.mus_score.specs.Limits.{head_limit}
 use Rattle.std.proofs.Common.{◌≡◌, ◌≤◌, ◌+◌, ◌*◌, ℕ, List, [], ◌∷◌, ◌++◌, length, map, max, refl, arith}
 use Rattle.std.proofs.lemmas.List.Elements.{All-head, All-tail}
 use Rattle.std.proofs.lemmas.List.Sums.{sum_by-cons}
@@ -19,11 +20,11 @@ near_of clef [] h = tt
 near_of clef (x ∷ heads) h =
     (All-head (IsInReach clef) x heads h, near_of clef heads (All-tail (IsInReach clef) x heads h))
 
-few_heads : (f : Flat) (n : ℕ) → max 1 (length f.event.heads) + n ≤ 50000 → length f.event.heads ≤ 50000
+few_heads : (f : Flat) (n : ℕ) → max 1 (length f.event.heads) + n ≤ head_limit → length f.event.heads ≤ head_limit
 few_heads f n h = omega (arith, h)
 
 pub can_stand : (clef : Clef) (fs : List Flat)
-    → AreInReach clef fs → All IsGoodFlat fs → sum_by flat_weight fs ≤ 50000 → AllCanStand fs (clefs_from clef fs)
+    → AreInReach clef fs → All IsGoodFlat fs → sum_by flat_weight fs ≤ head_limit → AllCanStand fs (clefs_from clef fs)
 can_stand clef [] reach good few = tt
 can_stand clef (f ∷ fs) reach good few =
     let sum = sum_by-cons flat_weight f fs in

@@ -1,5 +1,6 @@
 -- Good drawn voices: signatures have at most one sign for a letter, and heads, those of graces too, are near the
 -- staff, and so are the ends of stems.
+use Rattle.mus_score.specs.Limits.{head_limit}
 use Rattle.std.specs.Prelude.{◌≤◌, ⊤, List, [], ◌∷◌, length, map, IfSome}
 use Rattle.std.specs.List.{AllByRecursion}
 use Rattle.mus_units.specs.declared.pitch.Clef.{Clef}
@@ -23,7 +24,7 @@ AllCanDraw (f ∷ fs) = CanDraw f × AllCanDraw fs
 -- a grace can be drawn in a clef
 pub record CanGrace (clef : Clef) (grace : Event) : Type 0 where
   pub near : AllNear (map (stand_of clef) grace.heads)
-  pub few : length grace.heads ≤ 50000
+  pub few : length grace.heads ≤ head_limit
 
 abbrev pub AllCanGrace : Clef → List Event → Type 0
 AllCanGrace clef [] = ⊤
@@ -33,7 +34,7 @@ pub record IsGoodDrawn (e : DrawnEvent) : Type 0 where
   pub old : AreGoodSigns e.old
   pub key : IfSome e.flat.event.changes.key IsGoodKey
   pub graces : AllCanGrace e.clef e.flat.graces
-  pub few_graces : length e.flat.graces ≤ 50000
+  pub few_graces : length e.flat.graces ≤ head_limit
   pub words : length e.flat.event.words ≤ 8
   pub end : IsEndNear e.plan
 

@@ -1,3 +1,4 @@
+ghost use Rattle.mus_score.specs.Limits.{head_limit};
 ghost use Rattle.std.specs.Prelude.{◌≡◌, ◌≤◌, ◌*◌, ◌++◌, ◌∷◌, [], All, IfOk, OnOk, length, sum_by};
 ghost use Rattle.mus_units.specs.Good.{IsGoodKey};
 ghost use Rattle.mus_score.specs.Good.{IsGoodBody, flat_count, IsGoodFlat, flat_weight, longest_ticks, total_ticks};
@@ -82,7 +83,7 @@ fn draw_events<'a>(
     flats: Row<Flat<'a>>,
     plans: Row<StemPlan>,
 ) -> Result<Row<DrawnEvent<'a>>, Memory>
-    requires { total_ticks flats ≤ 50000 * longest_ticks }
+    requires { total_ticks flats ≤ head_limit * longest_ticks }
     ensures events { IfOk result (λ r. r ≡ drawn_events style 0 now.old flats.entry plans) }
     ensures now { OnOk result (length flats.entry ≤ length plans → now.new ≡ staff_state_after now.old flats.entry) }
 {

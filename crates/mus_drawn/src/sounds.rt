@@ -1,3 +1,4 @@
+ghost use Rattle.mus_score.specs.Limits.{head_limit};
 ghost use Rattle.std.specs.Prelude.{◌≡◌, ◌≤◌, ◌++◌, [], length, flat_map, All, IfOk, OnOk};
 ghost use Rattle.std.specs.List.{find, list_any};
 ghost use Rattle.mus_score.specs.Good.{IsGoodBody};
@@ -157,7 +158,7 @@ fn put_sounds(
     event: u32,
     heads: &[AlteredHead],
 ) -> Result<(), Memory>
-    requires { length heads.now ≤ 50000 }
+    requires { length heads.now ≤ head_limit }
     ensures { OnOk result (out.new ≡ out.old ++ sounds_from voice event 0 heads.now) }
 {
     for (k, x) in heads.iter().enumerate() {
@@ -209,7 +210,7 @@ fn put_events(
     before: &mut Row<AlteredHead>,
     flats: &[Flat<'_>],
 ) -> Result<(), Memory>
-    requires { All (λ f. length f.event.heads ≤ 50000) flats.now }
+    requires { All (λ f. length f.event.heads ≤ head_limit) flats.now }
     ensures sounds { OnOk result (out.new ≡ out.old ++ events_sounds voice spread now.old [] before.old flats.now) }
     ensures now { OnOk result (now.new ≡ staff_state_after now.old flats.now) }
     ensures before { OnOk result (before.new ≡ heard_after spread now.old [] before.old flats.now) }

@@ -1,3 +1,4 @@
+ghost use Rattle.mus_score.specs.Limits.{head_limit};
 ghost use Rattle.std.specs.Prelude.{◌≡◌, ◌≤◌, ◌++◌, length, map, OnOk};
 ghost use Rattle.mus_stems.specs.Heads.{AllNear, stand_of};
 ghost use Rattle.mus_stems.specs.Signs.{signs_from};
@@ -111,7 +112,7 @@ fn put_grace_signs(
     stands: &[HeadPosition],
 ) -> Result<(), Memory>
     requires near { AllNear stands.now }
-    requires few { length stands.now ≤ 50000 }
+    requires few { length stands.now ≤ head_limit }
     ensures { OnOk result
         (pen.new ≡ inked pen.old (sign_marks clef heads.now (signs_from (back grace_sign_side) stands.now))) }
 {
@@ -132,7 +133,7 @@ fn put_grace_ledgers(pen: &mut MarkPen, stands: &[HeadPosition]) -> Result<(), M
 #[tactic(auto, unfolding(crate::specs::Graces::grace_body))]
 fn put_grace_body(pen: &mut MarkPen, clef: Clef, heads: &[Head]) -> Result<(), Memory>
     requires near { AllNear (map (stand_of clef) heads.now) }
-    requires few { length heads.now ≤ 50000 }
+    requires few { length heads.now ≤ head_limit }
     ensures { OnOk result (pen.new ≡ inked pen.old (grace_body clef heads.now)) }
 {
     let stands = stands(pen.alloc, clef, heads)?;
@@ -160,7 +161,7 @@ pub fn put_grace(
     grace: &Event,
 ) -> Result<(), Memory>
     requires near { AllNear (map (stand_of clef) grace.now.heads) }
-    requires few { length grace.now.heads ≤ 50000 }
+    requires few { length grace.now.heads ≤ head_limit }
     ensures { OnOk result (pen.new ≡ inked pen.old (grace_marks clef group first grace.now)) }
 {
     let heads = grace.heads.as_slice();

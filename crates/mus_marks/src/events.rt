@@ -1,3 +1,4 @@
+ghost use Rattle.mus_score.specs.Limits.{head_limit};
 ghost use Rattle.std.specs.Prelude.{◌≡◌, ◌≤◌, ◌++◌, length, map, option_copied, slice_index_or, IfOk, OnOk};
 ghost use Rattle.mus_onsets.specs.Ranks.{AreRanked};
 ghost use Rattle.mus_stems.specs.Heads.{AllNear, stand_of};
@@ -88,7 +89,7 @@ fn put_graces(
     graces: &[Event],
 ) -> Result<(), Memory>
     requires keys { AreRanked keys.now }
-    requires few { length graces.now ≤ 50000 }
+    requires few { length graces.now ≤ head_limit }
     requires good { AllCanGrace clef graces.now }
     ensures { OnOk result (pen.new.marks ≡ pen.old.marks ++ graces_from keys.now measure tick clef group 0 graces.now) }
 {

@@ -1,3 +1,4 @@
+ghost use Rattle.mus_score.specs.Limits.{measure_limit};
 ghost use Rattle.std.specs.Prelude.{◌≡◌, ◌≤◌, ◌<◌, ◌+◌, ◌++◌, length, map, option_copied, OnOk};
 ghost use Rattle.{mus_onsets.specs.{Keys.has_features, Ranks.AreRanked}, mus_drawn.specs.Good.{AreGoodMeasures}};
 ghost use Rattle.mus_marks.specs.Events.{bar_part, measures_marks};
@@ -58,7 +59,7 @@ pub fn put_measures(
 ) -> Result<(), Memory>
     requires keys { AreRanked keys.now }
     requires fits { a + length measures.now ≤ length lengths.now }
-    requires few { length lengths.now ≤ 2000 }
+    requires few { length lengths.now ≤ measure_limit }
     requires good { AreGoodMeasures measures.now }
     requires verses { HasVerses (option_copied place) }
     ensures { OnOk result
@@ -151,7 +152,7 @@ pub fn put_columns_part(
 ) -> Result<(), Memory>
     requires keys { AreRanked keys.now }
     requires fits { a + length measures.now ≤ length lengths.now }
-    requires few { length lengths.now ≤ 2000 }
+    requires few { length lengths.now ≤ measure_limit }
     requires good { AreGoodMeasures measures.now }
     requires verses { HasVerses (option_copied place) }
     ensures { OnOk result

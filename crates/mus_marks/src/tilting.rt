@@ -1,3 +1,4 @@
+ghost use Rattle.mus_score.specs.Limits.{measure_limit};
 ghost use Rattle.std.specs.Prelude.{◌≡◌, ◌≤◌, ◌<◌, ◌+◌, length, map, pos, slice_index_or, slice_range, All, IfOk};
 ghost use Rattle.mus_score.specs.GoodScore.{IsGoodScore};
 ghost use Rattle.mus_score.specs.Seats.{grouped};
@@ -75,7 +76,7 @@ fn sloped_over(
 ) -> Result<Row<Row<i32>>, Memory>
     requires keys { AreRanked keys.now }
     requires slopes { AllCanTilt keys.now at.now a measures.now }
-    requires few { a + length measures.now ≤ 2000 }
+    requires few { a + length measures.now ≤ measure_limit }
     ensures { IfOk result (λ r. r ≡ sloped_over keys.now at.now a measures.now) }
 {
     let mut ends = Row::with_room(alloc, measures.len())?;

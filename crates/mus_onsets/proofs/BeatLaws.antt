@@ -1,4 +1,5 @@
 -- The tree and the events in a row have the same beats, and these determine onsets.
+use Rattle.mus_score.specs.Limits.{head_limit}
 use Rattle.std.proofs.Common.{◌≡◌, ◌∙◌, ℕ, ◌+◌, ◌*◌, ◌≤◌, List, [], ◌∷◌, ◌++◌, ap, map, refl, subst, sym, arith}
 use Rattle.std.proofs.lemmas.List.{map-append}
 use Rattle.std.proofs.lemmas.List.Sums.{sum_by-cons}
@@ -67,7 +68,7 @@ ticks_of (f ∷ fs) =
       sum_by-cons (λ x. x.duration) f fs,
     )
 
-pub beats_short : (ms : List Music) → IsGoodBody ms → sum_by (λ b. b.ticks) (beats_of ms) ≤ 50000 * longest_ticks
+pub beats_short : (ms : List Music) → IsGoodBody ms → sum_by (λ b. b.ticks) (beats_of ms) ≤ head_limit * longest_ticks
 beats_short ms good = omega (arith, ticks_of (flats_of ms), flats_short ms good)
 
 pub ruleset beats_bounds = (beats_agree, beats_short, body_fits)

@@ -1,5 +1,6 @@
 //! What onsets need of the events of a body. No event is copied.
 
+ghost use Rattle.mus_score.specs.Limits.{head_limit};
 ghost use Rattle.std.specs.Prelude.{◌≡◌, ◌≤◌, ◌*◌, ◌++◌, map, true, IfOk, OnOk, sum_by};
 ghost use Rattle.mus_score.specs.Good.{IsGoodBody, longest_ticks};
 ghost use Rattle.mus_score.specs.Times.{all_products_fit, is_scalable, products_fit, scaled_ticks};
@@ -69,7 +70,7 @@ fn put_nodes(body: &[Music], qs: u64, ps: u64, out: &mut Row<Beat>) -> Result<()
 pub(crate) fn beats(alloc: Global, body: &[Music]) -> Result<Row<Beat>, Memory>
     requires { IsGoodBody body.now }
     ensures beats { IfOk result (λ r. r ≡ beats_of body.now) }
-    ensures short { IfOk result (λ r. sum_by (λ b. b.ticks) r ≤ 50000 * longest_ticks) }
+    ensures short { IfOk result (λ r. sum_by (λ b. b.ticks) r ≤ head_limit * longest_ticks) }
 {
     let mut out = Row::with_room(alloc, body.len())?;
     put_nodes(body, 1, 1, &mut out)?;

@@ -1,3 +1,4 @@
+ghost use Rattle.mus_score.specs.Limits.{head_limit};
 ghost use Rattle.std.specs.Prelude.{◌≡◌, ◌≤◌, ◌++◌, OnOk, filter, length};
 ghost use Rattle.mus_onsets.specs.Keys.{AreKeys, change_has_mark, event_keys, first_keys, grace_keys, has_entries};
 ghost use Rattle.mus_onsets.specs.Keys.{has_features, is_for_each, key_has_mark, meter_has_mark};
@@ -51,7 +52,7 @@ fn put_graces(
     tick: u64,
     graces: &[Event],
 ) -> Result<(), Memory>
-    requires { length graces.now ≤ 50000 }
+    requires { length graces.now ≤ head_limit }
     ensures { OnOk result (out.new ≡ out.old ++ grace_keys measure tick 0 graces.now) }
 {
     for (i, _grace) in graces.iter().enumerate() {
@@ -71,7 +72,7 @@ pub fn put_event_keys(
     signed: bool,
     f: &Flat<'_>,
 ) -> Result<(), Memory>
-    requires { length f.now.graces ≤ 50000 }
+    requires { length f.now.graces ≤ head_limit }
     ensures { OnOk result (out.new ≡ out.old ++ event_keys measure tick in_head signed f.now) }
 {
     if !in_head && draws(signed, &f.event().changes) {

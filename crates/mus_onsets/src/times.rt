@@ -1,3 +1,4 @@
+ghost use Rattle.mus_score.specs.Limits.{head_limit, measure_limit};
 ghost use Rattle.std.specs.Prelude.{◌≡◌, ◌≤◌, ◌<◌, ◌*◌, ◌++◌, [], All, IfOk, OnOk, length, map, sum_by};
 ghost use Rattle.std.specs.List.{range_with_len};
 ghost use Rattle.mus_score.specs.Good.{IsGoodBody, longest_ticks};
@@ -31,7 +32,7 @@ pub struct Timeline {
 
 /// Adds the onsets of the events of a measure.
 fn put_beats(out: &mut Row<Onset>, voice: u32, measure: u32, beats: &[Beat]) -> Result<(), Memory>
-    requires { sum_by (λ b. b.ticks) beats.now ≤ 50000 * longest_ticks }
+    requires { sum_by (λ b. b.ticks) beats.now ≤ head_limit * longest_ticks }
     ensures { OnOk result (out.new ≡ out.old ++ beat_onsets voice measure 0 beats.now) }
 {
     let mut tick = 0;
@@ -69,7 +70,7 @@ fn put_measures(
     measures: &[Measure],
 ) -> Result<(), Memory>
     requires good { All (λ m. IsGoodBody m.body) measures.now }
-    requires few { length measures.now ≤ 2000 }
+    requires few { length measures.now ≤ measure_limit }
     ensures { OnOk result (out.new ≡ out.old ++ measure_onsets voice 0 measures.now) }
 {
     for (k, m) in measures.iter().enumerate() {

@@ -1,5 +1,6 @@
 -- Invariants of good music: intermediate products are small, durations are neither 0 nor too long, and no head is
 -- lost.
+use Rattle.mus_score.specs.Limits.{head_limit}
 use Rattle.std.proofs.Common.{◌≡◌, ℕ, zero, suc, ◌+◌, ◌*◌, ◌/◌, ◌≤◌, List, [], ◌∷◌, ◌++◌, map, Bool, true, false, ◌&&◌}
 use Rattle.std.proofs.Common.{max, length, length-append, refl, sym, ◌∙◌, ap, subst, nat_le, arith, lit≤, inl, inr}
 use Rattle.std.proofs.Common.{if◌then◌else◌, mul_assoc, one-mul, div-le_self, le-mul_of_pos_right, le_trans, add-mul}
@@ -445,14 +446,14 @@ good_body ms good = body_keeps ms (all_music MusicKeeps music_keeps ms) outside 
 pub body_fits : (ms : List Music) → IsGoodBody ms → all_products_fit ms 1 1 ≡ true
 body_fits ms good = (good_body ms good).fits
 
-pub body_short : (ms : List Music) → IsGoodBody ms → durations_within ms 1 1 ≤ 50000 * longest_ticks
+pub body_short : (ms : List Music) → IsGoodBody ms → durations_within ms 1 1 ≤ head_limit * longest_ticks
 body_short ms good = omega (arith, (good_body ms good).short, good.few)
 
 pub node_fits : (m : Music) → IsGoodNode m → products_fit m 1 1 ≡ true
 node_fits m good =
     let h : (products_fit m 1 1 && true) ≡ true = body_fits (m ∷ []) good in (and_parts (products_fit m 1 1) true h).0
 
-pub node_short : (m : Music) → IsGoodNode m → duration_of m ≤ 50000 * longest_ticks
+pub node_short : (m : Music) → IsGoodNode m → duration_of m ≤ head_limit * longest_ticks
 node_short m good = omega (arith, body_short (m ∷ []) good)
 
 pub flats_good : (ms : List Music) → IsGoodBody ms → All IsGoodFlat (flats_of ms)
@@ -465,13 +466,13 @@ sum_of_nodes (m ∷ ms) = omega (arith, sum_of_nodes ms, sum_by-cons duration_of
 pub flats_total : (ms : List Music) → IsGoodBody ms → total_ticks (flats_of ms) ≡ sum_by duration_of ms
 flats_total ms good = (good_body ms good).total no_pending_leaf ∙ sum_of_nodes ms
 
-pub flats_short : (ms : List Music) → IsGoodBody ms → total_ticks (flats_of ms) ≤ 50000 * longest_ticks
+pub flats_short : (ms : List Music) → IsGoodBody ms → total_ticks (flats_of ms) ≤ head_limit * longest_ticks
 flats_short ms good = omega (arith, (good_body ms good).total no_pending_leaf, body_short ms good)
 
 pub flats_weigh : (ms : List Music) → IsGoodBody ms → sum_by flat_weight (flats_of ms) ≤ sum (map weight ms)
 flats_weigh ms good = omega (arith, (good_body ms good).weights no_pending_leaf)
 
-pub flats_few : (ms : List Music) → IsGoodBody ms → sum_by flat_count (flats_of ms) ≤ 50000
+pub flats_few : (ms : List Music) → IsGoodBody ms → sum_by flat_count (flats_of ms) ≤ head_limit
 flats_few ms good = omega (arith, (good_body ms good).counts no_pending_leaf, good.few)
 
 pub body_total : (ms : List Music) → IsGoodBody ms → durations_within ms 1 1 ≡ total_ticks (flats_of ms)

@@ -1,4 +1,5 @@
 -- Good music.
+use Rattle.mus_score.specs.Limits.{head_limit}
 use Rattle.std.specs.Prelude.{◌≡◌, ℕ, zero, suc, ◌+◌, ◌*◌, ◌≤◌, List, [], ◌∷◌, length, map, sum, Bool, true, false}
 use Rattle.std.specs.Prelude.{◌&&◌, ◌||◌, ◌==◌, nat_le, if◌then◌else◌, max, sum_by}
 use Rattle.mus_units.specs.Value.{value_length, whole_note}
@@ -61,7 +62,7 @@ outside = record { deeper = 2; inner = false; grace = false }
 
 pub record IsGoodBody (body : List Music) : Type 0 where
   pub good : (all_judged (map judged_within body) outside).good ≡ true
-  pub few : sum (map weight body) ≤ 50000
+  pub few : sum (map weight body) ≤ head_limit
 
 -- a node by itself
 abbrev pub IsGoodNode : Music → Type 0

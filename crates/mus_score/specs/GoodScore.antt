@@ -1,4 +1,5 @@
 -- Good scores: required by each call that takes a score or a voice, and guaranteed by each call that makes one.
+use Rattle.mus_score.specs.Limits.{head_limit, highest_head, lowest_head, measure_limit}
 use Rattle.std.specs.Prelude.{◌≡◌, ◌≢◌, ⊤, ℕ, suc, pos, negsuc, ◌≤◌, ◌<◌, ◌≤ℤ◌, List, [], ◌∷◌, length, map, sum, sum_by}
 use Rattle.std.specs.Prelude.{flat_map, false, All, AllPairs, IfSome, unwrap_or}
 use Rattle.std.specs.List.Sorted.{IsStrictlyIncreasing}
@@ -25,7 +26,7 @@ clef_at before e = unwrap_or e.changes.clef before
 
 -- the heights within reach: up to seven ledger lines below or above the staff
 abbrev pub IsInReach : Clef → Head → Type 0
-IsInReach clef h = (negsuc 13 ≤ℤ height_of h.pitch clef) × (height_of h.pitch clef ≤ℤ pos 22)
+IsInReach clef h = (lowest_head ≤ℤ height_of h.pitch clef) × (height_of h.pitch clef ≤ℤ highest_head)
 
 -- the heads of an event and of its graces, in the clef at the event
 abbrev pub AreInReach : Clef → List Flat → Type 0
@@ -50,10 +51,10 @@ abbrev pub voice_weight : Voice → ℕ
 voice_weight v = sum_by (λ m. sum (map weight m.body)) v.measures
 
 pub record IsGoodVoice (v : Voice) : Type 0 where
-  pub few_measures : length v.measures ≤ 2000
+  pub few_measures : length v.measures ≤ measure_limit
   pub few_verses : v.verses ≤ 8
   pub near : v.gap ≤ 1000
-  pub few_heads : voice_weight v ≤ 50000
+  pub few_heads : voice_weight v ≤ head_limit
   pub key : IsGoodKey v.key
   pub meter : IsGoodMeter v.meter
   pub bodies : All (λ m. IsGoodBody m.body) v.measures
@@ -68,8 +69,8 @@ IsLed (v ∷ vs) = is_lower v.seat ≡ false
 
 pub record IsGoodScore (s : Score) : Type 0 where
   pub few_voices : length s.voices ≤ 16
-  pub few_measures : s.measures ≤ 2000
-  pub few_heads : sum_by voice_weight s.voices ≤ 50000
+  pub few_measures : s.measures ≤ measure_limit
+  pub few_heads : sum_by voice_weight s.voices ≤ head_limit
   pub voices : All IsGoodVoice s.voices
   pub measures : All (λ v. length v.measures ≡ s.measures) s.voices
   pub ids : AllPairs (λ v w. v.id ≢ w.id) s.voices

@@ -1,6 +1,7 @@
 pub mod Even
 pub mod Good
 pub mod GoodScore
+pub mod Limits
 pub mod Plain
 pub mod Seats
 pub mod Times

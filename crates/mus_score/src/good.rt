@@ -2,6 +2,7 @@ ghost use Rattle.std.specs.Prelude.{◌≡◌, ◌↔◌, IsTrue, map, min, sum}
 ghost use Rattle.mus_score.specs.Good.{IsGoodBody, all_judged, has_value_ticks, is_good_note, is_rest, judged_within};
 ghost use Rattle.mus_score.specs.Good.{tuplet_judged, weight};
 
+use crate::limits::HEAD_LIMIT;
 use crate::score::{Event, Music};
 use mus_units::{WHOLE, ticks_of};
 
@@ -155,5 +156,5 @@ pub fn is_good_body(body: &[Music]) -> bool
         inner: false,
         grace: false,
     };
-    judge_all(body, outside).good && weights_within(body) <= 50_000
+    judge_all(body, outside).good && weights_within(body) <= u64::from(HEAD_LIMIT)
 }

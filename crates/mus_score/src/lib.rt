@@ -7,6 +7,7 @@
 pub mod copies;
 pub mod good;
 pub mod leaves;
+pub mod limits;
 pub mod plain;
 pub mod score;
 pub mod times;
@@ -14,6 +15,7 @@ pub mod times;
 pub use copies::copy_event;
 pub use good::{NodeContext, NodeVerdict, is_good_body, weights_within};
 pub use leaves::events;
+pub use limits::{HEAD_LIMIT, HIGHEST_HEAD, LOWEST_HEAD, MEASURE_LIMIT};
 pub use mus_units::{Bar, Deco, Head, Key, Meter, Sign, Spread, Wish};
 pub use plain::is_plain;
 pub use score::{

@@ -1,3 +1,4 @@
+ghost use Rattle.mus_score.specs.Limits.{head_limit};
 ghost use Rattle.std.specs.Prelude.{◌≡◌, ◌∷◌, [], ◌≤◌, ◌<◌, ◌^◌, ◌++◌, map, true, IfOk, OnOk, ◌*◌, All, sum, sum_by};
 ghost use Rattle.mus_score.specs.declared.score.Flat.{Flat};
 ghost use Rattle.mus_score.specs.Good.{IsGoodBody, IsGoodNode, IsGoodFlat, flat_count, flat_weight, longest_ticks};
@@ -74,7 +75,7 @@ pub fn duration(m: &Music) -> u64
 pub fn body_duration(body: &[Music]) -> u64
     requires { IsGoodBody body.now }
     ensures total { result ≡ total_ticks (flats_of body.now) }
-    ensures short { result ≤ 50000 * longest_ticks }
+    ensures short { result ≤ head_limit * longest_ticks }
 {
     durations_in(body, 1, 1)
 }
@@ -194,8 +195,8 @@ pub fn flatten(alloc: Global, body: &[Music]) -> Result<Row<Flat<'_>>, Memory>
     ensures each { IfOk result (λ r. All IsGoodFlat r) }
     ensures even { IfOk result (λ r. AreEvenEvents r body.now) }
     ensures total { IfOk result (λ r. total_ticks r ≡ sum_by duration_of body.now) }
-    ensures short { IfOk result (λ r. total_ticks r ≤ 50000 * longest_ticks) }
-    ensures count { IfOk result (λ r. sum_by flat_count r ≤ 50000) }
+    ensures short { IfOk result (λ r. total_ticks r ≤ head_limit * longest_ticks) }
+    ensures count { IfOk result (λ r. sum_by flat_count r ≤ head_limit) }
     ensures heads { IfOk result (λ r. sum_by flat_weight r ≤ sum (map weight body.now)) }
 {
     let mut out = Row::with_room(alloc, body.len())?;

@@ -1,4 +1,5 @@
 -- The lowest and the highest of good heads are in range.
+use Rattle.mus_score.specs.Limits.{highest_head, lowest_head}
 use Rattle.std.proofs.Common.{ℤ, pos, negsuc, ◌≤ℤ◌, List, [], ◌∷◌, arith}
 use Rattle.std.proofs.lemmas.Int.{ints, clamps}
 use Rattle.std.specs.Int.{int_min, int_max}
@@ -9,7 +10,7 @@ use Rattle.mus_stems.specs.Ends.{low_of, high_of, lowest_in, highest_in, run_low
 use Rattle.mus_stems.specs.Stills.{AllGood}
 
 abbrev pub InRange : ℤ → Type 0
-InRange z = (negsuc 13 ≤ℤ z) × (z ≤ℤ pos 22)
+InRange z = (lowest_head ≤ℤ z) × (z ≤ℤ highest_head)
 
 in_min : (y z : ℤ) → InRange y → InRange z → InRange (int_min y z)
 in_min y z p q = (omega (arith, ints, clamps, p.0, q.0), omega (arith, ints, clamps, p.1, q.1))

@@ -1,4 +1,5 @@
 -- The stem inputs of events that can be drawn are good.
+use Rattle.mus_score.specs.Limits.{head_limit}
 use Rattle.std.proofs.Common.{◌≡◌, ◌≤◌, List, [], ◌∷◌, length, map, refl, subst, sym, ap, suc}
 use Rattle.mus_units.specs.declared.pitch.Clef.{Clef}
 use Rattle.mus_units.specs.declared.note.Head.{Head}
@@ -14,7 +15,7 @@ length-stands c (h ∷ hs) = ap (λ n. suc n) (length-stands c hs)
 
 still_is_good : (f : Flat) (c : Clef) → CanDrawEvent f c → IsGoodStill (still_of f c)
 unfolding still_of
-still_is_good f c can = (can.near, subst (λ n. n ≤ 50000) (sym (length-stands c f.event.heads)) can.few, can.dots)
+still_is_good f c can = (can.near, subst (λ n. n ≤ head_limit) (sym (length-stands c f.event.heads)) can.few, can.dots)
 
 all_good : (fs : List Flat) (cs : List Clef) → AllCanStand fs cs → AllGood (stills fs cs)
 all_good [] cs can = tt {0}

@@ -1,6 +1,7 @@
 -- Displaced heads: heads are taken from the lowest up if the stem goes up, and from the highest down if it goes down,
 -- at one height in the order of the text. A head at most one step past the one taken before it goes to the other side
 -- of the stem, unless that one did.
+use Rattle.mus_score.specs.Limits.{highest_head, lowest_head}
 use Rattle.std.specs.Prelude.{ℕ, zero, suc, ℤ, pos, negsuc, ◌+◌, ◌+ℤ◌, ◌-ℤ◌, ◌≤ℤ◌, Bool, true, false, not, ◌&&◌, int_le}
 use Rattle.std.specs.Prelude.{if◌then◌else◌, List, [], ◌∷◌, length, replicate, Option, Some, None, is_some}
 use Rattle.std.specs.Ordering.{int_eq}
@@ -19,7 +20,7 @@ stand_of c h = record { height = height_of h.pitch c; signed = is_some h.sign }
 
 -- heads are at heights -14 to 22
 abbrev pub IsNearStaff : HeadPosition → Type 0
-IsNearStaff s = (negsuc 13 ≤ℤ s.height) × (s.height ≤ℤ pos 22)
+IsNearStaff s = (lowest_head ≤ℤ s.height) × (s.height ≤ℤ highest_head)
 
 abbrev pub AllNear : List HeadPosition → Type 0
 AllNear ss = AllByRecursion IsNearStaff ss

@@ -1,5 +1,6 @@
 -- What a stem plan needs of an event: its value, whether a space or a line end separates it from the event before it,
 -- and where its heads are in its clef.
+use Rattle.mus_score.specs.Limits.{head_limit}
 use Rattle.std.specs.{Prelude.{ℕ, ◌≤◌, Bool, true, false, ⊤, List, [], ◌∷◌, length, map}, List.AllByRecursion}
 use Rattle.mus_units.specs.declared.value.Base.{Base}
 use Rattle.mus_units.specs.declared.pitch.Clef.{Clef}
@@ -45,7 +46,7 @@ stills (f ∷ fs) (c ∷ cs) = still_of f c ∷ stills fs cs
 -- an event that can be drawn in a clef: at most 50,000 heads, each at height -14 to 22, and at most 3 dots
 pub record CanDrawEvent (f : Flat) (c : Clef) : Type 0 where
   pub near : AllNear (map (stand_of c) f.event.heads)
-  pub few : length f.event.heads ≤ 50000
+  pub few : length f.event.heads ≤ head_limit
   pub dots : f.event.value.dots ≤ 3
 
 -- each event can be drawn in its own clef
@@ -56,7 +57,7 @@ AllCanStand (f ∷ fs) (c ∷ cs) = CanDrawEvent f c × AllCanStand fs cs
 
 -- the same for stem inputs
 abbrev pub IsGoodStill : StemInput → Type 0
-IsGoodStill e = AllNear e.stands × (length e.stands ≤ 50000) × (e.dots ≤ 3)
+IsGoodStill e = AllNear e.stands × (length e.stands ≤ head_limit) × (e.dots ≤ 3)
 
 abbrev pub AllGood : List StemInput → Type 0
 AllGood es = AllByRecursion IsGoodStill es

@@ -1,3 +1,4 @@
+ghost use Rattle.mus_score.specs.Limits.{highest_head, lowest_head};
 ghost use Rattle.std.specs.Prelude.{◌≡◌, ◌≤ℤ◌, ◌≤◌, ◌++◌, pos, negsuc, IfOk, OnOk};
 ghost use Rattle.std.specs.List.{list_any};
 ghost use Rattle.mus_stems.specs.Heads.{AllNear};
@@ -17,8 +18,8 @@ pub struct Spot {
 /// Returns the dy of the dots of a head, in the space above if the head is on a line.
 #[tactic(auto, unfolding(crate::specs::Dots::dot_height))]
 fn dot_dy(height: i32) -> i32
-    requires low { negsuc 13 ≤ℤ height }
-    requires high { height ≤ℤ pos 22 }
+    requires low { lowest_head ≤ℤ height }
+    requires high { height ≤ℤ highest_head }
     ensures { result ≡ dot_height height }
 {
     if height % 2 == 0 {

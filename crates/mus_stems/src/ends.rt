@@ -1,3 +1,4 @@
+ghost use Rattle.mus_score.specs.Limits.{highest_head, lowest_head};
 ghost use Rattle.std.specs.Prelude.{◌≡◌, ◌≤ℤ◌, pos, negsuc};
 ghost use Rattle.mus_stems.specs.Heads.{AllNear};
 ghost use Rattle.mus_stems.specs.Stills.{AllGood};
@@ -74,8 +75,8 @@ fn high_of_run(run: &[StemInput]) -> i32
 pub fn lowest_head(stands: &[HeadPosition]) -> i32
     requires { AllNear stands.now }
     ensures value { result ≡ low_of stands.now }
-    ensures low { negsuc 13 ≤ℤ result }
-    ensures high { result ≤ℤ pos 22 }
+    ensures low { lowest_head ≤ℤ result }
+    ensures high { result ≤ℤ highest_head }
 {
     low_in(stands)
 }
@@ -84,18 +85,18 @@ pub fn lowest_head(stands: &[HeadPosition]) -> i32
 pub fn highest_head(stands: &[HeadPosition]) -> i32
     requires { AllNear stands.now }
     ensures value { result ≡ high_of stands.now }
-    ensures low { negsuc 13 ≤ℤ result }
-    ensures high { result ≤ℤ pos 22 }
+    ensures low { lowest_head ≤ℤ result }
+    ensures high { result ≤ℤ highest_head }
 {
     high_in(stands)
 }
 
 /// Returns whether stems go up, given the lowest and the highest height.
 fn points_up(wish: Wish, low: i32, high: i32) -> bool
-    requires low_low { negsuc 13 ≤ℤ low }
-    requires low_high { low ≤ℤ pos 22 }
-    requires high_low { negsuc 13 ≤ℤ high }
-    requires high_high { high ≤ℤ pos 22 }
+    requires low_low { lowest_head ≤ℤ low }
+    requires low_high { low ≤ℤ highest_head }
+    requires high_low { lowest_head ≤ℤ high }
+    requires high_high { high ≤ℤ highest_head }
     ensures { result ≡ is_up wish low high }
 {
     match wish {
@@ -118,8 +119,8 @@ pub fn run_points_up(wish: Wish, run: &[StemInput]) -> bool
 /// Returns the end of a stem that goes up.
 #[tactic(auto, unfolding(crate::specs::Ends::upper_end))]
 fn end_above(high: i32) -> i32
-    requires low { negsuc 13 ≤ℤ high }
-    requires high { high ≤ℤ pos 22 }
+    requires low { lowest_head ≤ℤ high }
+    requires high { high ≤ℤ highest_head }
     ensures { result ≡ upper_end high }
 {
     (STEP * high + STEM_LENGTH).max(MIDDLE_LINE)
@@ -128,8 +129,8 @@ fn end_above(high: i32) -> i32
 /// Returns the end of a stem that goes down.
 #[tactic(auto, unfolding(crate::specs::Ends::lower_end))]
 fn end_below(low: i32) -> i32
-    requires low { negsuc 13 ≤ℤ low }
-    requires high { low ≤ℤ pos 22 }
+    requires low { lowest_head ≤ℤ low }
+    requires high { low ≤ℤ highest_head }
     ensures { result ≡ lower_end low }
 {
     (STEP * low - STEM_LENGTH).min(MIDDLE_LINE)
@@ -138,10 +139,10 @@ fn end_below(low: i32) -> i32
 /// Returns the end of a stem that goes past its outermost head in its direction.
 #[tactic(auto, unfolding(crate::specs::Ends::outer_end))]
 fn end_past(up: bool, low: i32, high: i32) -> i32
-    requires low_low { negsuc 13 ≤ℤ low }
-    requires low_high { low ≤ℤ pos 22 }
-    requires high_low { negsuc 13 ≤ℤ high }
-    requires high_high { high ≤ℤ pos 22 }
+    requires low_low { lowest_head ≤ℤ low }
+    requires low_high { low ≤ℤ highest_head }
+    requires high_low { lowest_head ≤ℤ high }
+    requires high_high { high ≤ℤ highest_head }
     ensures { result ≡ outer_end up low high }
 {
     if up { end_above(high) } else { end_below(low) }

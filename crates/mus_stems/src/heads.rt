@@ -1,8 +1,10 @@
+ghost use Rattle.mus_score.specs.Limits.{highest_head, lowest_head};
 ghost use Rattle.std.specs.Prelude.{◌≡◌, ◌≤ℤ◌, ◌<◌, ◌++◌, List, Option, pos, negsuc, length, map, IfOk};
 ghost use Rattle.mus_stems.specs.Heads.{stand_of, IsNearStaff, AllNear, lowest, highest, level_of, Taken, taken_one};
 ghost use Rattle.mus_stems.specs.Heads.{taken_at, taken, is_step_past, gives_way, shifted, head_shift, shifts_of};
 
 use crate::distances::{LEFT_OF_STEM, RIGHT_OF_STEM};
+use mus_score::HIGHEST_HEAD;
 use mus_units::{Clef, Few, Head, Memory, Row, height};
 use std::alloc::Global;
 
@@ -73,8 +75,8 @@ pub fn highest_from(first: i32, stands: &[HeadPosition]) -> i32
 /// Returns the level of a height: how far it is along the direction in which heads are taken.
 #[tactic(auto, unfolding(crate::specs::Heads::level_of))]
 pub fn level(up: bool, height: i32) -> i32
-    requires low { negsuc 13 ≤ℤ height }
-    requires high { height ≤ℤ pos 22 }
+    requires low { lowest_head ≤ℤ height }
+    requires high { height ≤ℤ highest_head }
     ensures { result ≡ level_of up height }
 {
     if up { height } else { 0 - height }
@@ -84,7 +86,7 @@ pub fn level(up: bool, height: i32) -> i32
 #[tactic(auto, unfolding(crate::specs::Heads::is_step_past))]
 fn is_step(before: i32, level: i32) -> bool
     requires low { negsuc 21 ≤ℤ level }
-    requires high { level ≤ℤ pos 22 }
+    requires high { level ≤ℤ highest_head }
     ensures { result ≡ is_step_past before level }
 {
     level - 1 <= before
@@ -94,7 +96,7 @@ fn is_step(before: i32, level: i32) -> bool
 #[tactic(auto, unfolding(crate::specs::Heads::gives_way))]
 fn is_moved(last: Option<LastHead>, level: i32) -> bool
     requires low { negsuc 21 ≤ℤ level }
-    requires high { level ≤ℤ pos 22 }
+    requires high { level ≤ℤ highest_head }
     ensures { result ≡ gives_way last level }
 {
     match last {
@@ -123,7 +125,7 @@ fn shift_one(
 ) -> Option<LastHead>
     requires near { IsNearStaff s }
     requires low { negsuc 21 ≤ℤ v }
-    requires high { v ≤ℤ pos 22 }
+    requires high { v ≤ℤ highest_head }
     requires room { i < length shifts.old }
     ensures moved { (rest : List Taken)
         → shifted (head_shift up) result rest shifts.new
@@ -155,7 +157,7 @@ fn shift_level(
 ) -> Option<LastHead>
     requires near { AllNear stands.now }
     requires low { negsuc 21 ≤ℤ v }
-    requires high { v ≤ℤ pos 22 }
+    requires high { v ≤ℤ highest_head }
     requires room { length stands.now ≡ length shifts.old }
     ensures moved { (rest : List Taken)
         → shifted (head_shift up) result rest shifts.new
@@ -179,7 +181,7 @@ fn shift_all(up: bool, stands: &[HeadPosition], shifts: &mut [i32])
 {
     let mut last = None;
     for n in 0..45u8 {
-        last = shift_level(up, i32::from(n) - 22, stands, last, shifts);
+        last = shift_level(up, i32::from(n) - HIGHEST_HEAD, stands, last, shifts);
     }
 }
 

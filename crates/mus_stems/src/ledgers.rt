@@ -1,3 +1,4 @@
+ghost use Rattle.mus_score.specs.Limits.{highest_head, lowest_head};
 ghost use Rattle.std.specs.Prelude.{◌≡◌, ◌≤ℤ◌, ◌≤◌, ◌++◌, pos, negsuc, IfOk, OnOk};
 ghost use Rattle.mus_stems.specs.Ledgers.{line_below, line_above, ledger_lines, lines_below, lines_above, ledgers_of};
 
@@ -7,7 +8,7 @@ use std::alloc::Global;
 
 /// Returns how many ledger lines a head below the staff needs.
 fn count_below(low: i32) -> u32
-    requires near { negsuc 13 ≤ℤ low }
+    requires near { lowest_head ≤ℤ low }
     ensures value { result ≡ lines_below low }
     ensures bound { result ≤ 7 }
 {
@@ -16,7 +17,7 @@ fn count_below(low: i32) -> u32
 
 /// Returns how many ledger lines a head above the staff needs.
 fn count_above(high: i32) -> u32
-    requires near { high ≤ℤ pos 22 }
+    requires near { high ≤ℤ highest_head }
     ensures value { result ≡ lines_above high }
     ensures bound { result ≤ 7 }
 {
@@ -43,7 +44,7 @@ fn ledger_above(k: u32) -> i32
 
 /// Adds the even heights from -2 down to the lowest head, as dy.
 pub fn put_below(out: &mut Row<i32>, low: i32) -> Result<(), Memory>
-    requires near { negsuc 13 ≤ℤ low }
+    requires near { lowest_head ≤ℤ low }
     ensures { OnOk result (out.new ≡ out.old ++ ledger_lines line_below 0 (lines_below low)) }
 {
     for k in 0..count_below(low) {
@@ -54,7 +55,7 @@ pub fn put_below(out: &mut Row<i32>, low: i32) -> Result<(), Memory>
 
 /// Adds the even heights from 10 up to the highest head, as dy.
 pub fn put_above(out: &mut Row<i32>, high: i32) -> Result<(), Memory>
-    requires near { high ≤ℤ pos 22 }
+    requires near { high ≤ℤ highest_head }
     ensures { OnOk result (out.new ≡ out.old ++ ledger_lines line_above 0 (lines_above high)) }
 {
     for k in 0..count_above(high) {
@@ -67,8 +68,8 @@ pub fn put_above(out: &mut Row<i32>, high: i32) -> Result<(), Memory>
 /// to the highest.
 #[tactic(auto, unfolding(crate::specs::Ledgers::ledgers_of))]
 pub fn ledgers_for(alloc: Global, low: i32, high: i32) -> Result<Row<i32>, Memory>
-    requires low { negsuc 13 ≤ℤ low }
-    requires high { high ≤ℤ pos 22 }
+    requires low { lowest_head ≤ℤ low }
+    requires high { high ≤ℤ highest_head }
     ensures { IfOk result (λ r. r ≡ ledgers_of low high) }
 {
     let mut out = Row::new(alloc);

@@ -1,3 +1,4 @@
+ghost use Rattle.mus_score.specs.Limits.{head_limit};
 ghost use Rattle.std.specs.Prelude.{◌≡◌, ◌≤ℤ◌, ◌<◌, ◌≤◌, ◌+◌, List, negsuc, length, Some, None, if◌then◌else◌, false};
 ghost use Rattle.std.specs.Prelude.{IfOk};
 ghost use Rattle.std.specs.List.{list_any};
@@ -6,6 +7,7 @@ ghost use Rattle.mus_stems.specs.Signs.{is_left, first_sign, sign_dx, signs_alon
 
 use crate::distances::{BETWEEN_COLUMNS, LEFT_OF_STEM, OUTER_SIGN_COLUMN, SIGN_COLUMN};
 use crate::heads::{HeadPosition, level};
+use mus_score::HIGHEST_HEAD;
 use mus_units::{Few, Memory, Row};
 use std::alloc::Global;
 
@@ -44,7 +46,7 @@ fn sign_one(first: i32, v: i32, s: HeadPosition, i: usize, k: u32, signs: &mut [
 fn sign_level(first: i32, v: i32, stands: &[HeadPosition], k: u32, signs: &mut [Option<i32>]) -> u32
     requires near { AllNear stands.now }
     requires room { length stands.now ≡ length signs.old }
-    requires few { length stands.now ≤ 50000 }
+    requires few { length stands.now ≤ head_limit }
     requires low { negsuc 1310 ≤ℤ first }
     requires bound { k ≤ 2200000 }
     ensures bound { result ≤ k + length stands.now }
@@ -65,13 +67,13 @@ fn sign_level(first: i32, v: i32, stands: &[HeadPosition], k: u32, signs: &mut [
 fn sign_all(first: i32, stands: &[HeadPosition], signs: &mut [Option<i32>])
     requires near { AllNear stands.now }
     requires room { length stands.now ≡ length signs.old }
-    requires few { length stands.now ≤ 50000 }
+    requires few { length stands.now ≤ head_limit }
     requires low { negsuc 1310 ≤ℤ first }
     ensures { signs.new ≡ signs_along first 0 (taken false stands.now) signs.old }
 {
     let mut k = 0;
     for n in 0..45u8 {
-        k = sign_level(first, i32::from(n) - 22, stands, k, signs);
+        k = sign_level(first, i32::from(n) - HIGHEST_HEAD, stands, k, signs);
     }
 }
 
@@ -98,7 +100,7 @@ pub fn signs_for(
     stands: &[HeadPosition],
 ) -> Result<Few<Option<i32>>, Memory>
     requires near { AllNear stands.now }
-    requires few { length stands.now ≤ 50000 }
+    requires few { length stands.now ≤ head_limit }
     requires low { negsuc 1310 ≤ℤ first }
     ensures { IfOk result (λ r. r ≡ signs_from first stands.now) }
 {

@@ -1,4 +1,5 @@
 -- A system has fewer columns than there are ranks.
+use Rattle.mus_score.specs.Limits.{measure_limit}
 use Rattle.std.proofs.Common.{◌≡◌, ◌∙◌, ℕ, zero, suc, ◌+◌, ◌-◌, ◌*◌, ◌≤◌, ◌<◌, Bool, true, false, not, ◌&&◌, ◌==◌}
 use Rattle.std.proofs.Common.{if◌then◌else◌, List, [], ◌∷◌, ◌++◌, length, length-append, drop, refl, sym, ap, subst}
 use Rattle.std.proofs.Common.{arith}
@@ -119,7 +120,7 @@ kept_few true ks = let count = length-filter is_for_each ks in omega (arith, cou
 kept_few false ks = omega arith
 
 all_few : (lengths : List ℕ) (a b : ℕ) (v : Voice)
-    → b ≤ 2000 → IsGoodVoice v → length (all_keys lengths a b v) ≤ 200002002
+    → b ≤ measure_limit → IsGoodVoice v → length (all_keys lengths a b v) ≤ 200002002
 all_few lengths a b v within good =
     let xs = slice_range v.measures a b in
     let bodies = all_take (λ x. IsGoodBody x.body) (b - a) (drop a v.measures)
@@ -133,12 +134,13 @@ all_few lengths a b v within good =
     omega (arith, more, count, first, both, within)
 
 voice_few : (lengths : List ℕ) (a b : ℕ) (v : Voice)
-    → b ≤ 2000 → IsGoodVoice v → length (voice_keys lengths a b v) ≤ 200002002
+    → b ≤ measure_limit → IsGoodVoice v → length (voice_keys lengths a b v) ≤ 200002002
 voice_few lengths a b v within good =
     omega (arith, kept_few (is_lower v.seat) (all_keys lengths a b v), all_few lengths a b v within good)
 
 voices_few : (lengths : List ℕ) (a b : ℕ) (vs : List Voice)
-    → b ≤ 2000 → AllByRecursion IsGoodVoice vs → length (flat_map (voice_keys lengths a b) vs) ≤ 200002002 * length vs
+    → b ≤ measure_limit → AllByRecursion IsGoodVoice vs
+    → length (flat_map (voice_keys lengths a b) vs) ≤ 200002002 * length vs
 voices_few lengths a b [] within good = omega arith
 voices_few lengths a b (v ∷ vs) within good =
     let here = voice_few lengths a b v within good.0 in let more = voices_few lengths a b vs within good.1 in

@@ -1,3 +1,4 @@
+ghost use Rattle.mus_score.specs.Limits.{measure_limit};
 ghost use Rattle.std.specs.Prelude.{◌≤◌, ◌<◌, length};
 ghost use Rattle.{mus_onsets.specs.Ranks.{AreRanked}, mus_time.specs.Frame.{ranked_prop}};
 
@@ -14,5 +15,5 @@ pub struct SystemFrame<'a> {
     pub ghost ranked: { AreRanked keys.now } by { ranked_prop keys.now },
     pub ghost order: { a < b },
     pub ghost within: { b ≤ length lengths.now },
-    pub ghost few: { length lengths.now ≤ 2000 },
+    pub ghost few: { length lengths.now ≤ measure_limit },
 }

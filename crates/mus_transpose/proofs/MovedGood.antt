@@ -1,4 +1,5 @@
 -- A moved score in reach is good.
+use Rattle.mus_score.specs.Limits.{highest_head, lowest_head}
 use Rattle.std.proofs.Common.{◌≡◌, ◌≢◌, ℕ, suc, ◌==◌, ◌&&◌, ◌*◌, ◌+ℤ◌, ◌<◌, nat_le, Bool, true, false, List, get_or, []}
 use Rattle.std.proofs.Common.{◌∷◌, ◌++◌, length, map, refl, sym, ◌∙◌, Decides, ap, subst, arith, sum, if◌then◌else◌}
 use Rattle.std.proofs.Math.Path.{fun_ext}
@@ -191,8 +192,8 @@ le_decides x y = (λ e. grind (arith, ints), λ l. grind (arith, ints))
 
 head_decides : (clef : Clef) (h : Head) → Decides (in_reach clef h) (IsInReach clef h)
 head_decides clef h =
-    Decides-and (int_le (negsuc 13) (height_of h.pitch clef)) (int_le (height_of h.pitch clef) (pos 22))
-    (le_decides (negsuc 13) (height_of h.pitch clef)) (le_decides (height_of h.pitch clef) (pos 22))
+    Decides-and (int_le lowest_head (height_of h.pitch clef)) (int_le (height_of h.pitch clef) highest_head)
+    (le_decides lowest_head (height_of h.pitch clef)) (le_decides (height_of h.pitch clef) highest_head)
 
 heads_decide : (clef : Clef) (hs : List Head) → Decides (list_all (in_reach clef) hs) (All (IsInReach clef) hs)
 heads_decide clef hs =

@@ -1,5 +1,6 @@
 -- Moved scores. A head moves by letters, and an accidental before it becomes the one that is as many semitones
 -- higher; a key moves by sharps. Beside each is the test whether it can be moved.
+use Rattle.mus_score.specs.Limits.{highest_head, lowest_head}
 use Rattle.std.specs.Prelude.{◌≡◌, ◌≢◌, ⊤, zero, suc, ℕ, ℤ, pos, negsuc, ◌+ℤ◌, ◌-ℤ◌, ◌*ℤ◌, ◌≤ℤ◌, ◌&&◌, nat_le, int_le}
 use Rattle.std.specs.Prelude.{Bool, true, false, List, [], ◌∷◌, length, map, All, MatchOption, Option, Some, None}
 use Rattle.std.specs.Prelude.{Result, Ok, Err, is_some, unwrap_or}
@@ -200,7 +201,7 @@ GivesIfMovable may x (Err MoveError.Memory) = ⊤
 
 -- ---- reach: the same as `AreInReach`, as a test
 abbrev pub in_reach : Clef → Head → Bool
-in_reach clef h = int_le (negsuc 13) (height_of h.pitch clef) && int_le (height_of h.pitch clef) (pos 22)
+in_reach clef h = int_le lowest_head (height_of h.pitch clef) && int_le (height_of h.pitch clef) highest_head
 
 abbrev pub are_in_reach : Clef → List Flat → Bool
 are_in_reach before [] = true

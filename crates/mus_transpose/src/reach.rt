@@ -1,14 +1,14 @@
 ghost use Rattle.std.specs.{Prelude.◌≡◌, List.list_all};
 ghost use Rattle.{mus_score.specs.GoodScore.{clef_at}, mus_transpose.specs.Moved.{are_in_reach, in_reach}};
 
-use mus_score::{Event, Flat, Head};
+use mus_score::{Event, Flat, HIGHEST_HEAD, Head, LOWEST_HEAD};
 use mus_units::{Clef, height};
 
 fn is_in_reach(clef: Clef, head: Head) -> bool
     ensures { result ≡ in_reach clef head }
 {
     let height = height(head.pitch, clef);
-    -14 <= height && height <= 22
+    LOWEST_HEAD <= height && height <= HIGHEST_HEAD
 }
 
 fn heads_in_reach(clef: Clef, heads: &[Head]) -> bool

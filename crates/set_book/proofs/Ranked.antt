@@ -1,4 +1,5 @@
 -- A score has one first fault: each kind of fault has its own rank.
+use Rattle.mus_score.specs.Limits.{head_limit}
 use Rattle.std.proofs.Common.{◌≡◌, ◌∙◌, refl, sym, ap, subst, ℕ, ◌<◌, List, [], ◌∷◌, ◌++◌, get_or, Bool, true, false}
 use Rattle.std.proofs.Common.{cond, None, arith, rules}
 use Rattle.std.proofs.lemmas.List.Elements.{All-from_recursion, All-contains}
@@ -130,7 +131,7 @@ score_ranked header items =
     let weights = flat_map voice_weights voices in
     both_ranked _ _ (each_ranked (voice_faults unnamed items) voices (voice_ranked unnamed items))
     (each_ranked (crowd_faults_at weights) weights
-    (λ w. when_ranked (nat_lt 50000 (crowd_up_to weights w)) (crowd_fault w) (omega arith)))
+    (λ w. when_ranked (nat_lt head_limit (crowd_up_to weights w)) (crowd_fault w) (omega arith)))
 
 -- ---- the first
 level : (f g : Fault) → is_before f g ≡ false → is_before g f ≡ false

@@ -1,3 +1,4 @@
+use Rattle.mus_score.specs.Limits.{head_limit}
 use Rattle.std.proofs.Common.{◌≡◌, length, ◌≤◌, sym, subst, arith}
 use Rattle.std.proofs.lemmas.Grind.{common_steps}
 use Rattle.std.specs.List.{All}
@@ -10,4 +11,4 @@ returns-clause-events c = grind (arith, common_steps, walked)
 pub returns-clause-heads : goal.returns-clause-heads
 returns-clause-heads c =
     let is : c.put_measures.new.events ≡ events_of_voice c.args.v.now = grind (arith, common_steps, walked) in
-    subst (All (λ e. length e.heads ≤ 50000)) (sym is) (few_heads c.args.v.now c.requires.bodies)
+    subst (All (λ e. length e.heads ≤ head_limit)) (sym is) (few_heads c.args.v.now c.requires.bodies)

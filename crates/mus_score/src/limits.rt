@@ -1,0 +1,13 @@
+//! The limits of a score.
+
+/// The most notes, rests and note heads of a score, each head of a chord counted.
+pub const HEAD_LIMIT: u32 = 50_000;
+
+/// The most measures of a score.
+pub const MEASURE_LIMIT: u32 = 2000;
+
+/// The lowest height of a note head: steps above the bottom line.
+pub const LOWEST_HEAD: i32 = -14;
+
+/// The highest height of a note head.
+pub const HIGHEST_HEAD: i32 = 22;
