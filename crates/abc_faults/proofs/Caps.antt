@@ -6,7 +6,6 @@ use Rattle.std.proofs.lemmas.Bool.Decides.{nat_tests}
 use Rattle.std.proofs.lemmas.List.{map-append}
 use Rattle.std.proofs.lemmas.List.Sums.{sum_by-cons}
 use Rattle.std.specs.Prelude.{nat_lt, flat_map}
-use Rattle.abc_lines.specs.declared.fault.Fault.{Fault}
 use Rattle.abc_faults.specs.declared.weights.Weight.{Weight}
 use Rattle.abc_faults.specs.Weights.{capped, stands_before, count_up_to, crowd_up_to, crowd_fault, crowd_faults_at}
 use Rattle.abc_faults.specs.Weights.{crowded}

@@ -2,7 +2,7 @@
 -- the steps after it.
 use Rattle.mus_score.specs.Limits.{highest_head, lowest_head, measure_limit}
 use Rattle.std.specs.Prelude.{ℕ, ◌+◌, ◌-◌, List, [], ◌∷◌, ◌++◌, Bool, true, false, not, ◌&&◌, ◌||◌, nat_le, nat_lt}
-use Rattle.std.specs.Prelude.{int_lt, pos, negsuc, is_none, if◌then◌else◌, count_by, flat_map}
+use Rattle.std.specs.Prelude.{int_lt, is_none, if◌then◌else◌, count_by, flat_map}
 use Rattle.std.specs.List.{before_first, list_any}
 use Rattle.mus_units.specs.declared.note.Head.{Head}
 use Rattle.mus_units.specs.declared.pitch.Clef.{Clef}

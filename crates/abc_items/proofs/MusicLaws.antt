@@ -1,5 +1,5 @@
 -- Reading a music line part by part.
-use Rattle.std.proofs.Common.{List, [], ◌++◌, Option, refl, sym, ap, ◌∙◌, subst, append_assoc, flat_map}
+use Rattle.std.proofs.Common.{List, ◌++◌, Option, refl, sym, ap, ◌∙◌, subst, append_assoc, flat_map}
 use Rattle.std.proofs.lemmas.Grind.{flat_map-append}
 use Rattle.abc_lines.specs.declared.book.Line.{Line}
 use Rattle.abc_lines.specs.declared.fault.Fault.{Fault}
@@ -8,13 +8,13 @@ use Rattle.abc_field.specs.declared.directive.Breaks.{Breaks}
 use Rattle.abc_music.specs.declared.token.Placed.{Placed}
 use Rattle.abc_music.specs.declared.token.TokenCursor.{TokenCursor}
 use Rattle.abc_music.specs.declared.token.LineRest.{LineRest}
-use Rattle.abc_music.specs.Tokens.{IsStart, GivesTokensFrom, LeadsTo, PartOf}
-use Rattle.abc_music.proofs.Line.{ReadTo, read_none, read_more}
+use Rattle.abc_music.specs.Tokens.{GivesTokensFrom, LeadsTo, PartOf}
+use Rattle.abc_music.proofs.Line.{ReadTo, read_more}
 use Rattle.abc_music.proofs.Prefixes.{after_part}
 use Rattle.abc_items.specs.declared.body.Body.{Body}
 use Rattle.abc_items.specs.Body.{ItemOrFault, placed_given, item_of_line_end, MusicGives}
 use Rattle.abc_items.specs.Reading.{Reads, Stops, ReadsSome, StopsBy}
-use Rattle.abc_items.proofs.Laws.{reads_nothing, reads_both, stops_before, stops_after, stops_by}
+use Rattle.abc_items.proofs.Laws.{reads_both, stops_before, stops_after, stops_by}
 
 abbrev tokens_give : Breaks → Line → List Placed → List ItemOrFault
 tokens_give breaks line tokens = flat_map (placed_given breaks line) tokens
@@ -24,11 +24,6 @@ pub record LineStage (breaks : Breaks) (line : Line) (before : Body) (place : To
   pub so_far : List Placed
   pub read : ReadTo breaks.bang line so_far place
   pub reads : Reads before (tokens_give breaks line so_far) body
-
-pub line_begins : (breaks : Breaks) (line : Line) (before : Body) (place : TokenCursor)
-    → IsStart line place → LineStage breaks line before place before
-line_begins breaks line before place start =
-    record { so_far = []; read = read_none breaks.bang line place start; reads = reads_nothing before }
 
 module _ (breaks : Breaks) (line : Line) (before : Body) (place : TokenCursor) (body : Body)
     (stage : LineStage breaks line before place body) where

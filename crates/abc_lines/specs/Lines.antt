@@ -3,7 +3,7 @@
 use Prim.Native.Char.{code}
 use Rattle.std.specs.Prelude.{◌-◌, ◌+◌, ◌&&◌, not, ℕ, List, [], ◌∷◌, length, Bool, false, ◌==◌, if◌then◌else◌, take}
 use Rattle.std.specs.Prelude.{drop, map, nat_eq, nat_le, codes}
-use Rattle.std.specs.List.{slice_split, suffix_len, position_or_len, prefix_len, starts_with, ends_with}
+use Rattle.std.specs.List.{slice_split, position_or_len, prefix_len, starts_with, ends_with}
 use Rattle.std.specs.Str.{is_utf8, chars}
 use Rattle.abc_lines.specs.declared.reading.LineContent.{LineContent}
 use Rattle.abc_lines.specs.Kinds.{is_percent_line}

@@ -19,7 +19,7 @@ use abc_items::unnamed_of;
 use abc_signs::TreeItem;
 use abc_steps::BodyItem;
 use abc_words::verse_count;
-use mus_score::{Measure, Score, Seat, Voice};
+use mus_score::{Measure, Score, Seat, USUAL_GAP, Voice};
 use mus_units::{Bar, Memory, Row, Text};
 use std::alloc::Global;
 use std::cmp::max;
@@ -91,7 +91,7 @@ fn voice_by_header(
     Ok(Voice {
         id: v.start.id,
         seat: Seat::Alone,
-        gap: 500,
+        gap: USUAL_GAP,
         clef: v.start.clef,
         key,
         meter: header.meter,

@@ -33,17 +33,6 @@ answered_end called o e s end page (inl reported) =
 answered_end called o e s end page (inr cut) =
     subst (λ t. IsAnswered (Is called) t o e) (sym cut.0) (called, refl, inr (page, cut.1))
 
--- an answer for something is an answer for anything equal to it
-pub answered_weaker : (C D : Called → Type 0)
-    → ((called : Called) → C called → D called) → (o e : Stream) (s : Status) → IsAnswered C s o e → IsAnswered D s o e
-answered_weaker C D give o e Status.Done r = (r.0, give r.0 r.1, r.2, r.3, r.4)
-answered_weaker C D give o e Status.SomeRefused r = (r.0, give r.0 r.1, r.2, r.3, r.4)
-answered_weaker C D give o e Status.NotLeast r = (r.0, give r.0 r.1, r.2, r.3, r.4)
-answered_weaker C D give o e Status.WriteFault r = (r.0, give r.0 r.1, r.2)
-answered_weaker C D give o e Status.Memory (quiet, inl none) = (quiet, inl none)
-answered_weaker C D give o e Status.Memory (quiet, inr part) = (quiet, inr (part.0, give part.0 part.1, part.2))
-answered_weaker C D give o e s r = absurd r
-
 -- an answer for something is an answer for what a command calls for, if they are equal
 pub answer_of : (c : Command) (text : List ℕ) (C : Called → Type 0)
     → ((called : Called) → C called → Calls c text called) → (o e : Stream) (s : Status) → IsAnswered C s o e

@@ -1,5 +1,5 @@
 -- The answer to a refused input: the status, and the line on errors.
-use Rattle.std.specs.Prelude.{ℕ, List, [], ◌∷◌, ◌++◌, codes, decimal}
+use Rattle.std.specs.Prelude.{ℕ, List, ◌++◌, codes, decimal}
 use Rattle.ps_reports.specs.PaintText.{halt_line}
 use Rattle.abcps.specs.declared.refusing.Refusal.{Refusal}
 use Rattle.abcps.specs.declared.status.Status.{Status}

@@ -1,3 +1,4 @@
+ghost use Rattle.abcps_words.specs.Limits.{tune_limit};
 ghost use Rattle.std.specs.Prelude.{◌≡◌, ◌≤◌, []};
 ghost use Rattle.{abcps.specs.Outcome.{IsAnswer, observed}, abcps_words.specs.declared.command.Command.{Command}};
 
@@ -15,7 +16,7 @@ pub(crate) fn make_book<O: Sink, E: Sink>(
     errors: &mut E,
 ) -> Status
     requires some { 1 ≤ tunes }
-    requires few { tunes ≤ 500 }
+    requires few { tunes ≤ tune_limit }
     ensures { IsAnswer (Command.Make tunes) result [] (observed O.taken O.faults output.old output.new)
         (observed E.taken E.faults errors.old errors.new) }
 {

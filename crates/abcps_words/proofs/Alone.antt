@@ -1,4 +1,5 @@
 -- Words ask for at most one command, and its numbers are in range.
+use Rattle.abcps_words.specs.Limits.{job_limit, tune_limit}
 use Rattle.std.proofs.Common.{◌≡◌, ℕ, pos, if◌then◌else◌, ◌==◌, List, ◌++◌, Option, Some, None, MatchOption, IfSome}
 use Rattle.std.proofs.Common.{IfNone, unwrap_or, refl, sym, ◌∙◌, ap, subst, arith, decimal}
 use Rattle.std.proofs.lemmas.Fmt.{decimal_is_IsNumeral}
@@ -31,7 +32,7 @@ rebuilt prefix o =
     if key == 416 then Command.Hear (spread_back (head_of (tail_of prefix))) else
     if key == 414 then Command.Make tunes else Command.Trial tunes o.flow (unwrap_or o.jobs 1) o.even
 
-number_back : (n : ℕ) → IsUpTo 500 n → digits_value 10 (decimal n) ≡ n
+number_back : (n : ℕ) → IsUpTo tune_limit n → digits_value 10 (decimal n) ≡ n
 number_back n within = (decimal_is_IsNumeral n (omega (arith, within))).1
 
 is_rebuilt : (c : Command) (o : Options) → HasTunes c → SaysCommand o c → rebuilt (prefix_of c) o ≡ c
@@ -61,14 +62,14 @@ asks_one words c d a b =
 good_by : (c : Command) (flags : List Flag) (options : List (List ℕ))
     → HasTunes c → IsSpelled flags options → SaysCommand (said flags) c → IsGoodCommand c
 good_by (Command.Set flow jobs by even) flags options good is says = (
-  subst (IsUpTo 64) (sym says.1) (jobs_good flags is.in_range),
+  subst (IsUpTo job_limit) (sym says.1) (jobs_good flags is.in_range),
   subst IsMove (sym says.2) (half_steps_good flags is.in_range),
 )
 good_by (Command.Systems flow table by) flags options good is says =
     subst IsMove (sym says.2) (half_steps_good flags is.in_range)
 good_by (Command.Make tunes) flags options good is says = good
 good_by (Command.Trial tunes flow jobs even) flags options good is says =
-    (good, subst (IsUpTo 64) (sym says.1) (jobs_good flags is.in_range))
+    (good, subst (IsUpTo job_limit) (sym says.1) (jobs_good flags is.in_range))
 good_by c flags options good is says = tt
 
 pub asked_is_good : AskedIsGood

@@ -1,5 +1,6 @@
 -- Options read one after another from the start: what has been read at each step, and that no other options have the
 -- same words.
+use Rattle.abcps_words.specs.Limits.{job_limit}
 use Rattle.std.proofs.Common.{◌≡◌, ℕ, ℤ, pos, negsuc, ◌+◌, ◌<◌, ◌≤◌, ◌^◌, Bool, true, false, cond, ◌||◌, List, [], ◌∷◌}
 use Rattle.std.proofs.Common.{◌++◌, length, Option, Some, None, is_some, unwrap_or, All, flat_map, refl, sym, ◌∙◌, ap}
 use Rattle.std.proofs.Common.{subst, arith, decimal, append_assoc}
@@ -20,7 +21,7 @@ use Rattle.abcps_words.specs.declared.options.Options.{Options}
 use Rattle.abcps_words.specs.Adding.{has_kind, with_flag, with_option}
 use Rattle.abcps_words.proofs.Prefixes.{head_of, tail_of, clash}
 
-one_number : (n m : ℕ) → IsUpTo 64 n → IsUpTo 64 m → decimal n ≡ decimal m → n ≡ m
+one_number : (n m : ℕ) → IsUpTo job_limit n → IsUpTo job_limit m → decimal n ≡ decimal m → n ≡ m
 one_number n m a b e = decimal_injective n m (omega (arith, a)) (omega (arith, b)) e
 
 abbrev second : List (List ℕ) → List ℕ
@@ -316,7 +317,7 @@ one_spelling flags others words a b =
     by_more (f ∷ more) e none = absurd (some_words f (flat_map flag_words more) (sym none))
 
 -- the numbers that options say are in range
-pub jobs_good : (flags : List Flag) → All IsFlag flags → IsUpTo 64 (unwrap_or (first_said jobs_of flags) 1)
+pub jobs_good : (flags : List Flag) → All IsFlag flags → IsUpTo job_limit (unwrap_or (first_said jobs_of flags) 1)
 jobs_good [] good = record { low = omega arith; high = omega arith }
 jobs_good (Flag.Jobs n ∷ flags) good = All-head IsFlag (Flag.Jobs n) flags good
 jobs_good (f ∷ flags) good = jobs_good flags (All-tail IsFlag f flags good)

@@ -1,4 +1,5 @@
 -- What the first words can't be, and where the leading words of a command end.
+use Rattle.abcps_words.specs.Limits.{job_limit, tune_limit}
 use Rattle.std.proofs.Common.{◌≡◌, ℕ, ℤ, ◌+◌, true, false, ◌||◌, ◌==◌, if◌then◌else◌, List, [], ◌∷◌, ◌++◌, take, drop}
 use Rattle.std.proofs.Common.{codes, refl, sym, ◌∙◌, ap, arith, decimal}
 use Rattle.std.proofs.lemmas.Bool.{true≢false}
@@ -46,7 +47,7 @@ clash name words other e is apart =
     true≢false (sym (key_eq (key_of name) (key_of (head_of other)) same) ∙ apart)
 
 pub no_jobs : (word : List ℕ) (words : List (List ℕ))
-    → word ≡ codes "--jobs" → LacksNumber 64 words → (f : Flag) (rest : List (List ℕ)) → IsFlag f
+    → word ≡ codes "--jobs" → LacksNumber job_limit words → (f : Flag) (rest : List (List ℕ)) → IsFlag f
     → word ∷ words ≡ flag_words f ++ rest
     → ⊥
 no_jobs word words is none (Flag.Jobs n) rest good e = none n rest good (ap tail_of e)
@@ -73,14 +74,14 @@ unnamed word words none (Command.Make tunes) rest e = none Name.Make (ap head_of
 unnamed word words none (Command.Trial tunes flow jobs even) rest e = none Name.Trial (ap head_of e)
 
 pub no_make : (word : List ℕ) (words : List (List ℕ))
-    → word ≡ name_bytes Name.Make → LacksNumber 500 words → (c : Command) (rest : List (List ℕ)) → HasTunes c
+    → word ≡ name_bytes Name.Make → LacksNumber tune_limit words → (c : Command) (rest : List (List ℕ)) → HasTunes c
     → word ∷ words ≡ prefix_of c ++ rest
     → ⊥
 no_make word words is none (Command.Make tunes) rest good e = none tunes rest good (ap tail_of e)
 no_make word words is none c rest good e = clash (codes "make") (word ∷ words) (prefix_of c ++ rest) e is refl
 
 pub no_trial : (word : List ℕ) (words : List (List ℕ))
-    → word ≡ name_bytes Name.Trial → LacksNumber 500 words → (c : Command) (rest : List (List ℕ)) → HasTunes c
+    → word ≡ name_bytes Name.Trial → LacksNumber tune_limit words → (c : Command) (rest : List (List ℕ)) → HasTunes c
     → word ∷ words ≡ prefix_of c ++ rest
     → ⊥
 no_trial word words is none (Command.Trial tunes flow jobs even) rest good e = none tunes rest good (ap tail_of e)

@@ -1,4 +1,5 @@
 -- The command that words ask for.
+use Rattle.abcps_words.specs.Limits.{job_limit, tune_limit}
 use Rattle.std.specs.Prelude.{◌≡◌, ⊤, ℕ, List, ◌++◌}
 use Rattle.abcps_words.specs.declared.options.Flag.{Flag}
 use Rattle.abcps_words.specs.declared.command.Command.{Command}
@@ -20,12 +21,12 @@ IsListed words = (c : Command) × Asks words c
 
 -- its jobs are 1 to 64, its tunes 1 to 500, and its half steps -12 to 12
 abbrev pub IsGoodCommand : Command → Type 0
-IsGoodCommand (Command.Set flow jobs by even) = IsUpTo 64 jobs × IsMove by
+IsGoodCommand (Command.Set flow jobs by even) = IsUpTo job_limit jobs × IsMove by
 IsGoodCommand (Command.Systems flow table by) = IsMove by
 IsGoodCommand Command.Inspect = ⊤
 IsGoodCommand Command.Check = ⊤
-IsGoodCommand (Command.Make tunes) = IsUpTo 500 tunes
-IsGoodCommand (Command.Trial tunes flow jobs even) = IsUpTo 500 tunes × IsUpTo 64 jobs
+IsGoodCommand (Command.Make tunes) = IsUpTo tune_limit tunes
+IsGoodCommand (Command.Trial tunes flow jobs even) = IsUpTo tune_limit tunes × IsUpTo job_limit jobs
 IsGoodCommand Command.Paint = ⊤
 IsGoodCommand (Command.Hear spread) = ⊤
 

@@ -1,5 +1,5 @@
 -- The line that lists the forms of the words. It is reported if the words have none of these forms.
-use Rattle.std.specs.Prelude.{ℕ, List, [], ◌∷◌, ◌++◌, codes}
+use Rattle.std.specs.Prelude.{ℕ, List, ◌++◌, codes}
 
 unfoldable pub usage_line : List ℕ
 usage_line =

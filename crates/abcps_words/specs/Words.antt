@@ -1,5 +1,6 @@
 -- The words of a command: its name, the number of tunes or the spread if it takes one, and its options in any order,
 -- each at most once.
+use Rattle.abcps_words.specs.Limits.{job_limit, tune_limit}
 use Rattle.std.specs.Prelude.{◌≡◌, ◌≤◌, ◌≤ℤ◌, ⊤, ℕ, ℤ, pos, negsuc, Bool, true, false, List, [], ◌∷◌, All, Option, Some}
 use Rattle.std.specs.Prelude.{None, unwrap_or, codes, decimal, flat_map, count_by}
 use Rattle.std.specs.Fmt.{signed_decimal}
@@ -51,8 +52,8 @@ prefix_of (Command.Hear spread) = name_bytes Name.Hear ∷ spread_word spread �
 
 -- a number of tunes is 1 to 500
 abbrev pub HasTunes : Command → Type 0
-HasTunes (Command.Make tunes) = IsUpTo 500 tunes
-HasTunes (Command.Trial tunes flow jobs even) = IsUpTo 500 tunes
+HasTunes (Command.Make tunes) = IsUpTo tune_limit tunes
+HasTunes (Command.Trial tunes flow jobs even) = IsUpTo tune_limit tunes
 HasTunes (Command.Set flow jobs by even) = ⊤
 HasTunes (Command.Systems flow table by) = ⊤
 HasTunes Command.Inspect = ⊤
@@ -73,7 +74,7 @@ abbrev pub IsFlag : Flag → Type 0
 IsFlag Flag.Flow = ⊤
 IsFlag Flag.Table = ⊤
 IsFlag Flag.Even = ⊤
-IsFlag (Flag.Jobs jobs) = IsUpTo 64 jobs
+IsFlag (Flag.Jobs jobs) = IsUpTo job_limit jobs
 IsFlag (Flag.Transpose by) = IsMove by
 
 -- two options are of one kind, whatever their numbers

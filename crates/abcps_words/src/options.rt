@@ -1,3 +1,4 @@
+ghost use Rattle.abcps_words.specs.Limits.{job_limit};
 ghost use Rattle.std.specs.Prelude.{◌≡◌, ◌++◌, ◌∷◌, ◌↔◌, ℕ, ℤ, List, IsTrue, MatchOption, decimal, map, string_bytes};
 ghost use Rattle.std.specs.Fmt.{signed_decimal};
 ghost use Rattle.abcps_words.specs.Words.{IsUpTo, IsMove, flag_words, IsFlag, IsSpelled, said};
@@ -40,8 +41,8 @@ const MOST_JOBS: u32 = 64;
 /// Returns the number of jobs at the start of the words, and the words after it.
 fn take_jobs(words: &[String]) -> Option<(u8, &[String])>
     ensures { MatchOption result
-        ((n : ℕ) (rest : List (List ℕ)) → IsUpTo 64 n → map string_bytes words.now ≡ decimal n ∷ rest → ⊥)
-        (λ z. IsUpTo 64 z.0 × (map string_bytes words.now ≡ decimal z.0 ∷ map string_bytes z.1.now)) }
+        ((n : ℕ) (rest : List (List ℕ)) → IsUpTo job_limit n → map string_bytes words.now ≡ decimal n ∷ rest → ⊥)
+        (λ z. IsUpTo job_limit z.0 × (map string_bytes words.now ≡ decimal z.0 ∷ map string_bytes z.1.now)) }
 {
     let (jobs, rest) = take_number(MOST_JOBS, words)?;
     Some((jobs as u8, rest))

@@ -1,7 +1,7 @@
 -- Every score has a list of the spans that fit a width.
 use Rattle.std.proofs.Common.{◌≡◌, ℕ, zero, suc, ◌+◌, ◌-◌, ◌<◌, ◌≤◌, ◌^◌, ◌⊎◌, ◌==◌, inl, inr, Bool, true, false, List}
-use Rattle.std.proofs.Common.{[], ◌∷◌, ◌++◌, length, length-append, Option, None, Some, IfSome, option_map, unwrap_or}
-use Rattle.std.proofs.Common.{slice_get, slice_index, refl, subst, arith}
+use Rattle.std.proofs.Common.{[], ◌∷◌, ◌++◌, length, length-append, IfSome}
+use Rattle.std.proofs.Common.{slice_index, refl, subst, arith}
 use Rattle.std.specs.List.{All}
 use Rattle.mus_score.specs.declared.score.Score.{Score}
 use Rattle.mus_score.specs.GoodScore.{IsGoodScore}

@@ -1,6 +1,5 @@
 -- Which line may follow which: the lines of a listing, each judged by the lines before it alone.
 use Prim.Native.Char.{code}
-use Rattle.std.specs.Prelude.{codes}
 use Rattle.std.specs.Prelude.{◌≡◌, ℕ, ◌+◌, ◌<◌, ◌≤◌, ◌^◌, ◌==◌, List, [], ◌∷◌, ◌++◌, length, Option, Some, None, IsSome}
 use Rattle.std.specs.Prelude.{if◌then◌else◌}
 use Rattle.lay_breaks.specs.Breaking.{last_from, sum_from, IsPotential}

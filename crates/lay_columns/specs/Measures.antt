@@ -1,5 +1,6 @@
 -- The columns of one measure: in a system that begins with it, and in one that began before. Columns depend neither
 -- on heights nor on the texts already in a column, so syllables and texts are placed in a fixed room.
+use Rattle.mus_laid.specs.Boxes.{top_line}
 use Rattle.std.specs.Prelude.{◌≡◌, ℕ, pos, ◌+◌, ◌-◌, ◌==◌, Bool, true, false, List, [], ◌∷◌, ◌++◌, drop, map, min}
 use Rattle.std.specs.Prelude.{slice_get, slice_range, Option, Some, None}
 use Rattle.mus_score.specs.declared.score.Score.{Score}
@@ -23,14 +24,14 @@ use Rattle.lay_reaches.specs.Columns.{columns_of}
 
 -- a room over the lines of the staff
 abbrev pub fixed_room : StaffRoom
-fixed_room = record { low = pos 0; high = pos 2000; verses = 0 }
+fixed_room = record { low = pos 0; high = pos top_line; verses = 0 }
 
 -- for the words of a voice whose verses count from `first` on
 abbrev pub fixed_place : ℕ → WordRoom
 fixed_place first = record { room = fixed_room; first = first; before = [] }
 
 abbrev pub staff_of_columns : List Laid → StaffMarks
-staff_of_columns marks = record { marks = marks; low = pos 0; high = pos 2000 }
+staff_of_columns marks = record { marks = marks; low = pos 0; high = pos top_line }
 
 -- the parts of the voices of a staff, one after the other, each with its verses after those of the voices before it
 abbrev pub parts_from : (ℕ → DrawnVoice → List Laid) → ℕ → List DrawnVoice → List Laid

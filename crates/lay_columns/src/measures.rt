@@ -14,7 +14,7 @@ ghost use Rattle.lay_columns.specs.Measures.{staff_of_columns};
 
 use lay_reaches::{Column, columns_in};
 use mus_drawn::DrawnVoice;
-use mus_laid::{Laid, MarkPen, StaffMarks};
+use mus_laid::{Laid, MarkPen, StaffMarks, TOP_LINE};
 use mus_marks::{StaffRoom, WordRoom, lower_count, put_columns_part, put_measures};
 use mus_onsets::Timeline;
 use mus_score::Score;
@@ -30,7 +30,7 @@ fn fixed_place(alloc: Global, first: u8) -> WordRoom
     WordRoom {
         room: StaffRoom {
             low: 0,
-            high: 2000,
+            high: TOP_LINE,
             verses: 0,
         },
         first,
@@ -43,7 +43,7 @@ fn staff_of_columns(marks: Row<Laid>) -> StaffMarks
 {
     StaffMarks {
         low: 0,
-        high: 2000,
+        high: TOP_LINE,
         marks,
     }
 }

@@ -9,10 +9,10 @@ use Rattle.std.proofs.Math.Seq.{drop-nil}
 use Rattle.std.specs.Prelude.{◌==◌, ◌&&◌, nat_le, if◌then◌else◌, IfOk, IsSome, Some, None, Result, Ok, Err}
 use Rattle.lay_breaks.specs.Breaking.{FitsFrom, IsChosen, NoneLegal, RisesFrom, last_from}
 use Rattle.lay_breaks.proofs.Unique.{one_is_chosen}
-use Rattle.lay_pages.specs.Even.{AreEven, AreFitting, AreHeights, AreSpots, StandByPages, ComesAfter, ComeAfter}
+use Rattle.lay_pages.specs.Even.{AreFitting, AreHeights, AreSpots, StandByPages, ComesAfter, ComeAfter}
 use Rattle.lay_pages.specs.Even.{ends_after, ends_page, groups_after, filled, parted, group_heights, heights_from}
 use Rattle.lay_pages.specs.Even.{page_cost, page_height, parted_from, parted_spots, even_spot_after, span_height}
-use Rattle.lay_pages.specs.Even.{square, stacked, turns}
+use Rattle.lay_pages.specs.Even.{stacked, turns}
 use Rattle.lay_pages.specs.declared.filling.Block.{Block}
 use Rattle.lay_pages.specs.declared.filling.BlockSpot.{BlockSpot}
 use Rattle.lay_pages.specs.declared.filling.Spot.{Spot}

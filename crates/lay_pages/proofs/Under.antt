@@ -1,4 +1,5 @@
 -- Stacked staves are those that the function of the bases returns.
+use Rattle.mus_laid.specs.Boxes.{top_line}
 use Rattle.std.proofs.Common.{◌≡◌, refl, sym, ap, ap₂, ◌∙◌, ℕ, suc, ◌+◌, ◌-◌, ◌<◌, ℤ, pos, negsuc, ◌+ℤ◌, ◌-ℤ◌, ◌≤ℤ◌}
 use Rattle.std.proofs.Common.{List, [], ◌∷◌, length, drop, get_or, add-one, drop-cons, arith, subst}
 use Rattle.std.proofs.lemmas.Int.{ints}
@@ -7,7 +8,7 @@ use Rattle.lay_pages.specs.Stacking.{AreGoodStaves, AreStavesStacked, above_base
 use Rattle.lay_pages.specs.Stacking.{bases_under, bottom_after, bottom_under}
 
 at_top : (top base : ℕ) (high : ℤ)
-    → base ≡ top + above_base high → pos 2000 ≤ℤ high → under_top base +ℤ high ≡ under_top top
+    → base ≡ top + above_base high → pos top_line ≤ℤ high → under_top base +ℤ high ≡ under_top top
 at_top top base (pos n) up good = omega (arith, ints, up)
 at_top top base (negsuc n) up good = absurd (omega (arith, ints))
 

@@ -1,11 +1,12 @@
 -- The stacked staves of a system. Heights are counted from the top of the block, and are negative below it.
+use Rattle.mus_laid.specs.Boxes.{top_line}
 use Rattle.std.specs.Prelude.{◌≡◌, ⊤, ℕ, suc, ◌+◌, ℤ, pos, negsuc, ◌+ℤ◌, ◌-ℤ◌, ◌≤ℤ◌, List, [], ◌∷◌}
 use Rattle.mus_laid.specs.declared.laid.StaffMarks.{StaffMarks}
 
 -- a staff covers at least its lines
 abbrev pub AreGoodStaves : List StaffMarks → Type 0
 AreGoodStaves [] = ⊤
-AreGoodStaves (staff ∷ more) = ((staff.low ≤ℤ pos 0) × (pos 2000 ≤ℤ staff.high)) × AreGoodStaves more
+AreGoodStaves (staff ∷ more) = ((staff.low ≤ℤ pos 0) × (pos top_line ≤ℤ staff.high)) × AreGoodStaves more
 
 -- The first staff has its highest mark at the top; each next one has its highest mark under the lowest mark of the
 -- one before, by the gap before it; and the bottom is the lowest mark of the last.

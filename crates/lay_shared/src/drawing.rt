@@ -8,7 +8,7 @@ ghost use Rattle.lay_shared.specs.Plans.{IsPlanFor};
 
 use crate::copies::copy_measures;
 use crate::plan::{Plan, PlannedStaff};
-use mus_score::{Bar, Score, Seat, Voice};
+use mus_score::{Bar, Score, Seat, USUAL_GAP, Voice, WIDE_GAP};
 use mus_units::{Memory, Row};
 use std::alloc::Global;
 
@@ -148,5 +148,5 @@ fn leading(others: &[u32]) -> Seat
 fn gap_of(leads: bool) -> u32
     ensures { result ≡ staff_gap leads }
 {
-    if leads { 1000 } else { 500 }
+    if leads { WIDE_GAP } else { USUAL_GAP }
 }

@@ -1,9 +1,9 @@
 -- A good voice gives a good drawn voice.
 use Rattle.mus_score.specs.Limits.{head_limit}
-use Rattle.std.proofs.Common.{◌≡◌, ◌≤◌, ◌+◌, ℕ, List, [], ◌∷◌, ◌++◌, length, map, max, refl, sym, ap, ◌∙◌, subst, arith}
+use Rattle.std.proofs.Common.{◌≡◌, ◌≤◌, ◌+◌, ℕ, List, [], ◌∷◌, ◌++◌, length, max, sym, subst, arith}
 use Rattle.std.proofs.lemmas.List.Elements.{All-head, All-tail}
 use Rattle.std.proofs.lemmas.List.Sums.{sum_by-cons}
-use Rattle.std.specs.Prelude.{Option, Some, None, IfSome, unwrap_or, is_some, count_by}
+use Rattle.std.specs.Prelude.{Option, Some, None, IfSome, unwrap_or}
 use Rattle.std.specs.List.{All, sum_by}
 use Rattle.mus_units.specs.declared.key.Key.{Key}
 use Rattle.mus_units.specs.declared.pitch.Clef.{Clef}
@@ -19,7 +19,7 @@ use Rattle.mus_drawn.specs.declared.drawn.SystemOpening.{SystemOpening}
 use Rattle.mus_drawn.specs.declared.drawn.Style.{Style}
 use Rattle.mus_drawn.specs.declared.standing.StaffState.{StaffState}
 use Rattle.mus_drawn.specs.Drawn.{standing_after, staff_state_after, old_signs, opening_of, drawn_events}
-use Rattle.mus_drawn.specs.Good.{CanDraw, AllCanDraw, CanGrace, AllCanGrace, IsGoodDrawn, AreGoodDrawn, IsGoodMeasure}
+use Rattle.mus_drawn.specs.Good.{AllCanDraw, AllCanGrace, AreGoodDrawn, IsGoodMeasure}
 use Rattle.mus_drawn.proofs.Reaches.{near_of}
 
 key_after : (key : Key) (new : Option Key) → IsGoodKey key → IfSome new IsGoodKey → IsGoodKey (unwrap_or new key)

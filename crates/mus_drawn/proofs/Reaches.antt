@@ -1,6 +1,6 @@
 -- Events within reach of the staff can be drawn.
 use Rattle.mus_score.specs.Limits.{head_limit}
-use Rattle.std.proofs.Common.{◌≡◌, ◌≤◌, ◌+◌, ◌*◌, ℕ, List, [], ◌∷◌, ◌++◌, length, map, max, refl, arith}
+use Rattle.std.proofs.Common.{◌≤◌, ◌+◌, ℕ, List, [], ◌∷◌, ◌++◌, length, map, max, arith}
 use Rattle.std.proofs.lemmas.List.Elements.{All-head, All-tail}
 use Rattle.std.proofs.lemmas.List.Sums.{sum_by-cons}
 use Rattle.std.specs.List.{All, sum_by}
@@ -10,7 +10,7 @@ use Rattle.mus_score.specs.declared.score.Flat.{Flat}
 use Rattle.mus_score.specs.Good.{IsGoodFlat, flat_weight, head_count}
 use Rattle.mus_score.specs.GoodScore.{AreInReach, IsInReach, clef_at}
 use Rattle.mus_stems.specs.Heads.{AllNear, stand_of}
-use Rattle.mus_stems.specs.Stills.{AllCanStand, CanDrawEvent, clefs_from}
+use Rattle.mus_stems.specs.Stills.{AllCanStand, clefs_from}
 use Rattle.mus_drawn.specs.declared.standing.StaffState.{StaffState}
 use Rattle.mus_drawn.specs.Drawn.{standing_after, staff_state_after}
 

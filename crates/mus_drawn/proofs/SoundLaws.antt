@@ -19,7 +19,7 @@ use Rattle.mus_drawn.specs.declared.sounds.AlteredHead.{AlteredHead}
 use Rattle.mus_drawn.specs.declared.sounds.Sound.{Sound}
 use Rattle.mus_drawn.specs.declared.standing.StaffState.{StaffState}
 use Rattle.mus_drawn.specs.Drawn.{standing_after, staff_state_after, standing_of}
-use Rattle.mus_drawn.specs.Sounds.{Seen, Sounding, tied_sound, comes_tied, alter_by, sounds_as, all_heads, seen}
+use Rattle.mus_drawn.specs.Sounds.{Seen, Sounding, tied_sound, alter_by, sounds_as, all_heads, seen}
 use Rattle.mus_drawn.specs.Sounds.{seen_from, seen_in, head_sounds, event_sounds, voice_sounds}
 
 -- heads with how they sound

@@ -1,7 +1,6 @@
 -- From measure to measure.
 use Rattle.std.proofs.Common.{◌≡◌, ◌<◌, ℕ, suc, ◌+◌, List, [], ◌∷◌, ◌++◌, append_assoc, drop, drop-cons, length, get_or}
-use Rattle.std.proofs.Common.{refl, sym, ap, ◌∙◌, subst, arith}
-use Rattle.mus_score.specs.declared.score.Flat.{Flat}
+use Rattle.std.proofs.Common.{sym, ap, ◌∙◌, subst, arith}
 use Rattle.mus_score.specs.declared.score.Measure.{Measure}
 use Rattle.mus_score.specs.GoodScore.{AreInReach, events_of}
 use Rattle.mus_score.specs.Times.{flats_of}

@@ -1,7 +1,7 @@
 -- A drawn voice: its events one after another, each with what is in force there, its tick and its stem plan; and how
 -- it makes room for other voices on its staff.
-use Rattle.std.specs.Prelude.{ℕ, ◌+◌, ℤ, pos, negsuc, Bool, true, false, is_some, List, [], ◌∷◌, Option, Some, None}
-use Rattle.std.specs.Prelude.{unwrap_or}
+use Rattle.std.specs.Prelude.{ℕ, ◌+◌, ℤ, pos, Bool, false, is_some, List, [], ◌∷◌, Option, Some, None}
+use Rattle.std.specs.Prelude.{unwrap_or, ◌-ℤ◌}
 use Rattle.mus_units.specs.{declared.key.Key.Key, declared.key.Sign.Sign, declared.note.Wish.Wish}
 use Rattle.mus_score.specs.declared.score.Changes.{Changes}
 use Rattle.mus_score.specs.declared.score.Flat.{Flat}
@@ -49,11 +49,15 @@ wish_in_seat seat wish = wish
 abbrev pub style_of : Voice → Style
 style_of v = record { seat = v.seat; wish = wish_in_seat v.seat v.stem }
 
+-- so far above or below their usual height are the rests of voices that share a staff, in u
+abbrev pub shared_rest_raise : ℤ
+shared_rest_raise = pos 1000
+
 -- their rests are apart, too: those of the first higher, in u, and those of the others lower
 abbrev pub raise_of : Seat → ℤ
 raise_of Seat.Alone = pos 0
-raise_of Seat.Upper = pos 1000
-raise_of Seat.Lower = negsuc 999
+raise_of Seat.Upper = shared_rest_raise
+raise_of Seat.Lower = pos 0 -ℤ shared_rest_raise
 
 -- Events; the onset of each is the total length of those before it. `now` is what is in force before the first.
 abbrev pub drawn_event : Style → ℕ → StaffState → Flat → StemPlan → DrawnEvent

@@ -1,7 +1,7 @@
 -- How the heads of a score sound, found by looking back from each. A head has the alteration of its own accidental;
 -- else it sounds as the head that is tied to it; else it has the alteration of the last accidental before it in its
 -- measure and voice that reaches it, those of graces too; else its key's. Graces are not listed.
-use Rattle.std.specs.Prelude.{ℕ, ◌+◌, Bool, ◌&&◌, if◌then◌else◌, List, [], ◌∷◌, ◌++◌, flat_map, Option, Some, None}
+use Rattle.std.specs.Prelude.{ℕ, ◌+◌, ◌&&◌, if◌then◌else◌, List, [], ◌∷◌, ◌++◌, flat_map, Option, Some, None}
 use Rattle.std.specs.List.{list_any}
 use Rattle.mus_units.specs.declared.key.Sign.{Sign}
 use Rattle.mus_units.specs.declared.key.Spread.{Spread}

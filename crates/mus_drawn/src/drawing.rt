@@ -17,6 +17,9 @@ use mus_stems::{StemPlan, stems};
 use mus_units::{Memory, Row, Wish};
 use std::alloc::Global;
 
+/// So far above or below their usual height are the rests of voices that share a staff, in u.
+const SHARED_REST_RAISE: i32 = 1000;
+
 /// Returns the stem direction of a voice: on a shared staff up for the first voice and down for the others, unless
 /// the voice asks for one.
 fn wish_in_seat(seat: Seat, wish: Wish) -> Wish
@@ -44,8 +47,8 @@ pub fn raise_of(seat: Seat) -> i32
 {
     match seat {
         Seat::Alone => 0,
-        Seat::Upper => 1000,
-        Seat::Lower => -1000,
+        Seat::Upper => SHARED_REST_RAISE,
+        Seat::Lower => -SHARED_REST_RAISE,
     }
 }
 

@@ -1,4 +1,5 @@
 -- The top of an event, its decorations, and all marks of an event except its syllables and texts.
+use Rattle.mus_laid.specs.Boxes.{top_line}
 use Rattle.std.specs.Prelude.{ℕ, ℤ, pos, ◌+ℤ◌, Bool, true, false, List, [], ◌∷◌, ◌++◌, Option, Some, None}
 use Rattle.std.specs.Int.{int_max}
 use Rattle.mus_units.specs.declared.glyph.Glyph.{Glyph}
@@ -7,7 +8,7 @@ use Rattle.mus_units.specs.declared.note.Head.{Head}
 use Rattle.mus_units.specs.declared.note.Deco.{Deco}
 use Rattle.mus_score.specs.declared.score.Event.{Event}
 use Rattle.{mus_stems.specs.declared.plans.StemPlan.{StemPlan}, mus_laid.specs.declared.drawn.LaneInk.{LaneInk}}
-use Rattle.mus_ink.specs.Distances.{deco_gap, deco_line, deco_step, top_line}
+use Rattle.mus_ink.specs.Distances.{deco_gap, deco_line, deco_step}
 use Rattle.mus_ink.specs.Drawing.{cut_dy, glyph}
 use Rattle.mus_ink.specs.Kinds.{deco_glyph}
 use Rattle.mus_ink.specs.Notes.{dy_of, highest_dy, heads_marks}

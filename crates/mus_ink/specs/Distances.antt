@@ -1,10 +1,6 @@
 -- Named distances and heights in u. Heights are counted from the bottom line of a staff.
 use Rattle.std.specs.Prelude.{ℕ}
 
--- the top line of a staff
-abbrev pub top_line : ℕ
-top_line = 2000
-
 -- the greatest distance of a height from the bottom line
 abbrev pub greatest_height : ℕ
 greatest_height = 1073741824

@@ -3,13 +3,13 @@ ghost use Rattle.mus_ink.specs.Decos.{with_stem, top_of, first_deco, next_deco, 
 ghost use Rattle.mus_ink.specs.Decos.{body_marks, note_marks};
 ghost use Rattle.{mus_stems.specs.Slope.{with_end}, mus_laid.specs.Ranked.{inked}};
 
-use crate::distances::{DECO_GAP, DECO_LINE, DECO_STEP, TOP_LINE};
+use crate::distances::{DECO_GAP, DECO_LINE, DECO_STEP};
 use crate::drawing::{cut_dy, put_glyph};
 use crate::kinds::deco_glyph;
 use crate::notes::{head_dy, highest_dy, put_heads_of};
 use crate::rests::put_rest;
 use crate::stems::put_stem_of;
-use mus_laid::MarkPen;
+use mus_laid::{MarkPen, TOP_LINE};
 use mus_score::Event;
 use mus_stems::StemPlan;
 use mus_units::{Clef, Deco, Glyph, Head, Memory};
@@ -21,7 +21,7 @@ fn with_stem(has: bool, to: i32, top: i32) -> i32
 }
 
 /// Returns the top of an event whose stem ends at `to`: the greater of its highest head's dy and, if it has a stem,
-/// that end; 2000 for a rest.
+/// that end; the top line for a rest.
 pub fn top_of(clef: Clef, heads: &[Head], plan: &StemPlan, to: i32) -> i32
     ensures { result ≡ top_of clef heads.now (with_end plan.now to) }
 {

@@ -2,8 +2,6 @@
 
 /// From a line of the staff to the space above it.
 pub const STEP: i64 = 250;
-/// The top line of the staff.
-pub const TOP_LINE: i32 = 2000;
 /// The greatest distance of a height from the bottom line.
 pub const FURTHEST: i64 = 1_073_741_824;
 

@@ -11,6 +11,10 @@ use Rattle.mus_laid.specs.declared.laid.Laid.{Laid}
 use Rattle.mus_laid.specs.declared.boxes.HeightRange.{HeightRange}
 use Rattle.mus_laid.specs.declared.boxes.Sides.{Sides}
 
+-- the height of the top line of a staff, in u above the bottom line
+abbrev pub top_line : ℕ
+top_line = 2000
+
 -- a text has at most 60 characters
 abbrev pub IsGoodMark : Mark → Type 0
 IsGoodMark (Mark.Words size rank dx dy text) = length text ≤ 60
@@ -87,4 +91,4 @@ over_marks so_far [] = so_far
 over_marks so_far (laid ∷ more) = over_marks (union_of_heights so_far (heights_of laid.mark)) more
 
 abbrev pub staff_heights : List Laid → HeightRange
-staff_heights all = over_marks (heights (pos 0) (pos 2000)) all
+staff_heights all = over_marks (heights (pos 0) (pos top_line)) all

@@ -7,6 +7,9 @@ use crate::laid::{Laid, Mark};
 use glyph_paths::bounds_of;
 use mus_units::{Glyph, Size};
 
+/// The height of the top line of a staff, in u above the bottom line.
+pub const TOP_LINE: i32 = 2000;
+
 /// The range from the least to the greatest height, in u above the staff's bottom line.
 #[derive(Clone, Copy, PartialEq, Eq)]
 pub struct HeightRange {
@@ -186,11 +189,14 @@ fn widened(a: HeightRange, b: HeightRange) -> HeightRange
     }
 }
 
-/// Returns the least and the greatest height of the boxes of all marks, covering at least 0 to 2000.
+/// Returns the least and the greatest height of the boxes of all marks, covering at least the lines of the staff.
 pub fn staff_heights(marks: &[Laid]) -> HeightRange
     ensures { result ≡ staff_heights marks.now }
 {
-    let mut so_far = HeightRange { low: 0, high: 2000 };
+    let mut so_far = HeightRange {
+        low: 0,
+        high: TOP_LINE,
+    };
     for laid in marks {
         so_far = widened(so_far, heights_of(&laid.mark));
     }

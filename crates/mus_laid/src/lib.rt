@@ -10,7 +10,7 @@ pub mod pen;
 pub mod printing;
 pub mod ranking;
 
-pub use boxes::{HeightRange, Sides, heights_of, sides_of, staff_heights};
+pub use boxes::{HeightRange, Sides, TOP_LINE, heights_of, sides_of, staff_heights};
 pub use columns::{anchor_rank, by_columns};
 pub use drawn::{Bridge, BridgeShape, Ink, LaneInk};
 pub use laid::{Laid, Lane, Mark, StaffMarks, SystemMarks};

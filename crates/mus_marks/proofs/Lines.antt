@@ -1,4 +1,5 @@
 -- Marks cover at least the lines of their staff.
+use Rattle.mus_laid.specs.Boxes.{top_line}
 use Rattle.std.proofs.{Common.{ℤ, pos, ◌≤ℤ◌, List, [], ◌∷◌, arith}, lemmas.Int.{ints, clamps}}
 use Rattle.mus_laid.specs.declared.boxes.HeightRange.{HeightRange}
 use Rattle.mus_laid.specs.declared.laid.Laid.{Laid}
@@ -19,13 +20,15 @@ cut_low : (z : ℤ) → z ≤ℤ pos 0 → cut_dy z ≤ℤ pos 0
 unfolding cut_dy
 cut_low z p = omega (arith, ints, clamps, p)
 
-cut_high : (z : ℤ) → pos 2000 ≤ℤ z → pos 2000 ≤ℤ cut_dy z
+cut_high : (z : ℤ) → pos top_line ≤ℤ z → pos top_line ≤ℤ cut_dy z
 unfolding cut_dy
 cut_high z p = omega (arith, ints, clamps, p)
 
 pub covers : (all : List Laid) → CoversLines (staff_over all)
 unfolding staff_over
 covers all = (
-  cut_low (staff_heights all).low (low_over (pos 0) (heights (pos 0) (pos 2000)) all (omega (arith, ints))),
-  cut_high (staff_heights all).high (high_over (pos 2000) (heights (pos 0) (pos 2000)) all (omega (arith, ints))),
+  cut_low (staff_heights all).low (low_over (pos 0) (heights (pos 0) (pos top_line)) all (omega (arith, ints))),
+  cut_high
+      (staff_heights all).high
+      (high_over (pos top_line) (heights (pos 0) (pos top_line)) all (omega (arith, ints))),
 )

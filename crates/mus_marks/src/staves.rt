@@ -17,7 +17,9 @@ use crate::silence::are_silent;
 use mus_bridges::put_bridges_of;
 use mus_drawn::DrawnVoice;
 use mus_ink::drawing::cut_dy;
-use mus_laid::{Bridge, Laid, MarkPen, StaffMarks, by_columns, put_bridges, staff_heights};
+use mus_laid::{
+    Bridge, Laid, MarkPen, StaffMarks, TOP_LINE, by_columns, put_bridges, staff_heights,
+};
 use mus_time::SystemFrame;
 use mus_units::{Memory, Row};
 use std::alloc::Global;
@@ -151,7 +153,7 @@ fn room_on(
     if is_silent_staff(frame, voices) {
         return Ok(StaffRoom {
             low: 0,
-            high: 2000,
+            high: TOP_LINE,
             verses: 0,
         });
     }

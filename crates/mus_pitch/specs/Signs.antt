@@ -1,5 +1,5 @@
 -- How further accidentals are added to those of a key.
-use Rattle.std.specs.Prelude.{◌==◌, ◌≤◌, ◌++◌, not, List, [], ◌∷◌, filter, count_by, Bool}
+use Rattle.std.specs.Prelude.{◌++◌, not, List, [], ◌∷◌, filter}
 use Rattle.mus_units.specs.{Good.same_letter, declared.key.Sign.Sign}
 
 -- an added accidental replaces the entry of its letter and goes last

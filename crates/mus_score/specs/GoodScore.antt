@@ -1,6 +1,7 @@
 -- Good scores: required by each call that takes a score or a voice, and guaranteed by each call that makes one.
+use Rattle.mus_score.specs.Seats.{wide_gap}
 use Rattle.mus_score.specs.Limits.{head_limit, highest_head, lowest_head, measure_limit}
-use Rattle.std.specs.Prelude.{◌≡◌, ◌≢◌, ⊤, ℕ, suc, pos, negsuc, ◌≤◌, ◌<◌, ◌≤ℤ◌, List, [], ◌∷◌, length, map, sum, sum_by}
+use Rattle.std.specs.Prelude.{◌≡◌, ◌≢◌, ⊤, ℕ, suc, ◌≤◌, ◌<◌, ◌≤ℤ◌, List, [], ◌∷◌, length, map, sum, sum_by}
 use Rattle.std.specs.Prelude.{flat_map, false, All, AllPairs, IfSome, unwrap_or}
 use Rattle.std.specs.List.Sorted.{IsStrictlyIncreasing}
 use Rattle.mus_units.specs.declared.note.Head.{Head}
@@ -53,7 +54,7 @@ voice_weight v = sum_by (λ m. sum (map weight m.body)) v.measures
 pub record IsGoodVoice (v : Voice) : Type 0 where
   pub few_measures : length v.measures ≤ measure_limit
   pub few_verses : v.verses ≤ 8
-  pub near : v.gap ≤ 1000
+  pub near : v.gap ≤ wide_gap
   pub few_heads : voice_weight v ≤ head_limit
   pub key : IsGoodKey v.key
   pub meter : IsGoodMeter v.meter

@@ -15,7 +15,7 @@ pub mod times;
 pub use copies::copy_event;
 pub use good::{NodeContext, NodeVerdict, is_good_body, weights_within};
 pub use leaves::events;
-pub use limits::{HEAD_LIMIT, HIGHEST_HEAD, LOWEST_HEAD, MEASURE_LIMIT};
+pub use limits::{HEAD_LIMIT, HIGHEST_HEAD, LOWEST_HEAD, MEASURE_LIMIT, USUAL_GAP, WIDE_GAP};
 pub use mus_units::{Bar, Deco, Head, Key, Meter, Sign, Spread, Wish};
 pub use plain::is_plain;
 pub use score::{

@@ -1,6 +1,6 @@
 -- The lowest and the highest of good heads are in range.
 use Rattle.mus_score.specs.Limits.{highest_head, lowest_head}
-use Rattle.std.proofs.Common.{ℤ, pos, negsuc, ◌≤ℤ◌, List, [], ◌∷◌, arith}
+use Rattle.std.proofs.Common.{ℤ, pos, ◌≤ℤ◌, List, [], ◌∷◌, arith}
 use Rattle.std.proofs.lemmas.Int.{ints, clamps}
 use Rattle.std.specs.Int.{int_min, int_max}
 use Rattle.mus_stems.specs.declared.heads.HeadPosition.{HeadPosition}

@@ -35,7 +35,7 @@ use Rattle.mus_score.specs.Good.{weight_step}
 use Rattle.mus_score.specs.GoodScore.{AreCounted, AreInReach, IsInReach, clef_at, IsGoodEvent, IsGoodScore, IsGoodVoice}
 use Rattle.mus_score.specs.GoodScore.{IsLed, events_of, voice_weight}
 use Rattle.mus_score.specs.Times.{flats_of}
-use Rattle.mus_transpose.specs.Moved.{CanMove, Within, are_in_reach, event_by, in_reach, moved_key, body_by, changed}
+use Rattle.mus_transpose.specs.Moved.{CanMove, Within, are_in_reach, event_by, in_reach, moved_key, body_by}
 use Rattle.mus_transpose.specs.Moved.{changed_flat, measure_by, move_from, moved_head, moved_score, on_circle, score_by}
 use Rattle.mus_transpose.specs.Moved.{sharps_in, voice_by, voice_may}
 use Rattle.mus_transpose.specs.declared.moves.Move.{Move}

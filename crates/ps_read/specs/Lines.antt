@@ -1,6 +1,5 @@
 -- The lines of a document, without the LF that ends each: the fixed ones, and those with numbers or words in them.
 use Prim.Native.Char.{code}
-use Rattle.std.specs.Prelude.{codes}
 use Rattle.std.specs.Prelude.{◌≡◌, ℕ, ℤ, ◌+◌, List, [], ◌∷◌, ◌++◌, length, drop}
 use Rattle.{eng_lines.specs.Lines.{Lacks}, mus_units.specs.declared.glyph.Size.{Size}}
 use Rattle.ps_text.specs.Document.{rules_line, staff_line, join_line, system_line, title_line, tune_line, heading_line}

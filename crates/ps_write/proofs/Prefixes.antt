@@ -1,6 +1,6 @@
 -- A text of which a prefix has gone out, and the rest that follows.
 use Rattle.std.proofs.Common.{◌≡◌, ℕ, suc, ◌+◌, ◌<◌, List, [], ◌∷◌, ◌++◌, length, take, drop, refl, sym, ap, ◌∙◌, subst}
-use Rattle.std.proofs.Common.{get_or, map, add-one, drop-cons, append-nil, append_assoc, length-append, arith, Option}
+use Rattle.std.proofs.Common.{get_or, add-one, drop-cons, append-nil, append_assoc, length-append, arith, Option}
 use Rattle.std.proofs.lemmas.List.{take-append-le}
 use Rattle.std.proofs.Math.Seq.{drop-length, take-append-add}
 use Rattle.std.proofs.KnownBytes.{Appends-nil, Appends-trans}

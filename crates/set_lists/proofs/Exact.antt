@@ -1,6 +1,6 @@
 -- What is written for a book is a listing of its scores' breakings, and no way is reported exactly when a score has
 -- none.
-use Rattle.std.proofs.Common.{◌≡◌, refl, ap, subst, inl, inr, ℕ, Bool, List, [], ◌∷◌, Result, Ok, Err}
+use Rattle.std.proofs.Common.{◌≡◌, refl, ap, subst, inl, inr, ℕ, List, [], ◌∷◌, Result, Ok, Err}
 use Rattle.std.proofs.lemmas.List.Elements.{All-cons, All-nil}
 use Rattle.std.specs.List.{All}
 use Rattle.abc_lines.specs.declared.book.TuneText.{TuneText}

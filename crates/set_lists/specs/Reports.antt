@@ -1,5 +1,5 @@
 -- The reports of a book: a line for each tune that has a fault, in order.
-use Rattle.std.specs.Prelude.{ℕ, Bool, List, [], ◌∷◌, ◌++◌, codes, decimal, Result, Ok, Err, is_err}
+use Rattle.std.specs.Prelude.{ℕ, Bool, List, [], ◌++◌, codes, decimal, Result, Ok, Err, is_err}
 use Rattle.std.specs.List.{flat_map, list_any}
 use Rattle.abc_lines.specs.declared.fault.Fault.{Fault}
 use Rattle.abc_lines.specs.declared.fault.FaultKind.{FaultKind}

@@ -1,5 +1,5 @@
 -- The line of a trial, and what is counted among outcomes.
-use Rattle.std.specs.Prelude.{ℕ, Bool, List, [], ◌∷◌, ◌++◌, codes, decimal, length, sum_by, count_by, Result, Ok, Err}
+use Rattle.std.specs.Prelude.{ℕ, Bool, List, ◌++◌, codes, decimal, length, sum_by, count_by, Result, Ok, Err}
 use Rattle.std.specs.Prelude.{is_ok}
 use Rattle.abc_lines.specs.declared.fault.Fault.{Fault}
 use Rattle.set_tune.specs.declared.tune.SetTune.{SetTune}

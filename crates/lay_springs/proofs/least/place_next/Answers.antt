@@ -9,7 +9,7 @@ use Rattle.lay_springs.proofs.Near.{next_near}
 use Rattle.lay_springs.proofs.Ends.{spring_short}
 use Rattle.lay_springs.proofs.Longer.{fewer_apart}
 use Rattle.lay_springs.proofs.Fronts.{front_clear, front_below, front_more, past_bound}
-use Rattle.lay_springs.proofs.least.place_next.Goals.{After-set_past-next, After-tightened}
+use Rattle.lay_springs.proofs.least.place_next.Goals.{After-set_past-next}
 use Rattle.lay_springs.proofs.least.place_next.Goals as goal
 
 module _ (g : _) (c : After-set_past-next g) where

@@ -1,11 +1,9 @@
-use Rattle.std.proofs.Common.{subst, sym, ap, ◌≡◌, ◌≤◌, length, ◌∙◌, arith}
+use Rattle.std.proofs.Common.{subst, sym, ap, length, ◌∙◌, arith}
 use Rattle.std.specs.Prelude.{map, sum}
-use Rattle.std.specs.List.{sum_by}
 use Rattle.mus_score.specs.Good.{weight}
 use Rattle.mus_score.specs.Times.{flats_of}
 use Rattle.mus_units.specs.Good.{IsGoodKey}
 use Rattle.mus_drawn.specs.Drawn.{opening_of, staff_state_after}
-use Rattle.mus_drawn.specs.Good.{AllCanDraw}
 use Rattle.mus_drawn.proofs.GoodLaws.{key_left_after, measure_good}
 use Rattle.mus_drawn.proofs.drawing.draw_measure.Goals as goal
 

@@ -1,9 +1,8 @@
-use Rattle.std.proofs.Common.{◌≡◌, ◌<◌, ◌+◌, ◌++◌, ◌∷◌, drop, length, arith, rules, subst, sym}
+use Rattle.std.proofs.Common.{◌+◌, drop, arith, subst, sym}
 use Rattle.mus_score.specs.GoodScore.{AreInReach, events_of}
-use Rattle.mus_score.specs.Times.{flats_of}
 use Rattle.mus_stems.proofs.RunLaws.{all_append}
-use Rattle.mus_drawn.specs.Good.{AllCanDraw, AreGoodMeasures, IsGoodMeasure}
-use Rattle.mus_drawn.proofs.Walks.{measures_cut, reach_here, can_here, measures_step}
+use Rattle.mus_drawn.specs.Good.{AreGoodMeasures, IsGoodMeasure}
+use Rattle.mus_drawn.proofs.Walks.{reach_here, can_here, measures_step}
 use Rattle.mus_drawn.proofs.drawing.draw_measures.Goals as goal
 
 pub draw_measure-requires-clause-reach : goal.draw_measure-requires-clause-reach

@@ -1,6 +1,6 @@
-use Rattle.std.proofs.Common.{rules, ◌≡◌, ◌≢◌, ◌∙◌, ◌<◌, ◌==◌, if◌then◌else◌, [], None, Some, IfSome, arith, replicate}
+use Rattle.std.proofs.Common.{◌≡◌, ◌≢◌, ◌∙◌, ◌<◌, None, Some, IfSome, arith, replicate}
 use Rattle.std.proofs.Common.{set, ap, sym, subst}
-use Rattle.lay_springs.specs.ReachView.{cut_reach, reach_in}
+use Rattle.lay_springs.specs.ReachView.{cut_reach}
 use Rattle.lay_reaches.specs.Stands.{stored_reaches}
 use Rattle.lay_reaches.proofs.Lone.{lone_known, none_reported, nowhere, others}
 use Rattle.lay_reaches.proofs.stands.Reaches.stands.Goals as goal
