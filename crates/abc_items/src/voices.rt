@@ -16,6 +16,7 @@ use crate::copies::copy_stood;
 use abc_field::VoiceDef;
 use abc_fields::Header;
 use abc_steps::{BodyItem, PlacedStep, Step};
+use mus_units::bytes::is_same;
 use mus_units::{Clef, Memory, Row, Text, Wish};
 use std::alloc::Global;
 
@@ -44,12 +45,6 @@ pub fn claims(step: &Step) -> bool
         Step::Clef(_) => false,
         _ => true,
     }
-}
-
-pub(crate) fn is_same(text: &[u8], other: &[u8]) -> bool
-    ensures { result ≡ bytes_eq text.now other.now }
-{
-    text == other
 }
 
 pub(crate) fn is_mentioned(ids: &[Text], id: &[u8]) -> bool

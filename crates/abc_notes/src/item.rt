@@ -7,6 +7,7 @@ ghost use Rattle.abc_notes.specs.Runs.{span_all, is_note_letter};
 
 use crate::note::note_at;
 use crate::part::{InnerPiece, ItemClass};
+use mus_units::bytes::is_blank;
 
 /// Reads the part of a chord or a grace group at the start, as long as it can be, and returns it with the rest. If
 /// `bang` is set, `!` is a line break.
@@ -92,7 +93,7 @@ fn name_len(bytes: &[u8]) -> usize
 fn is_name_byte(byte: u8) -> bool
     ensures { result ≡ is_name_byte byte }
 {
-    !(byte == b'!' || byte == b' ' || byte == b'\t' || byte == b'|')
+    !(is_blank(byte) || byte == b'!' || byte == b'|')
 }
 
 #[tactic(auto, unfolding(crate::specs::Items::item_class))]
@@ -148,5 +149,5 @@ pub fn is_deco_letter(byte: u8) -> bool
 fn is_passed_inside(byte: u8) -> bool
     ensures { result ≡ is_passed_inside byte }
 {
-    byte == b' ' || byte == b'\t' || byte == b'(' || byte == b')'
+    is_blank(byte) || byte == b'(' || byte == b')'
 }

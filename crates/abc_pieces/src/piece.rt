@@ -18,7 +18,7 @@ use abc_notes::grace::grace_at;
 use abc_notes::item::{is_deco_letter, is_note_byte, name_at};
 use abc_notes::length::{count_of, length_from, number_at};
 use abc_notes::note::note_at;
-use mus_units::bytes::{is_digit, is_letter};
+use mus_units::bytes::{is_blank, is_digit, is_letter, leading_blanks};
 
 /// The first piece, its effect on the next piece, and the rest.
 #[derive(Clone, Copy)]
@@ -116,7 +116,7 @@ fn class_of(byte: u8) -> PieceClass
         PieceClass::Bang
     } else if byte == b'+' {
         PieceClass::Plus
-    } else if byte == b' ' || byte == b'\t' {
+    } else if is_blank(byte) {
         PieceClass::Blank
     } else if is_deco_letter(byte) {
         PieceClass::Letter
@@ -517,7 +517,7 @@ fn plus_len(bytes: &[u8]) -> usize
 fn is_plus_byte(byte: u8) -> bool
     ensures { result ≡ is_plus_byte byte }
 {
-    !(byte == b'+' || byte == b' ' || byte == b'\t' || byte == b'|')
+    !(is_blank(byte) || byte == b'+' || byte == b'|')
 }
 
 #[tactic(auto, unfolding(crate::specs::Reading::space_read, abc_notes::specs::Runs::span_all))]
@@ -525,15 +525,8 @@ fn space(bytes: &[u8]) -> LinePiece<'_>
     ensures read { (bang : Bool) (b : ℕ) → shown_piece bang (Some result) ≡ meaning (space_read b bytes.now) }
     ensures within { (n : ℕ) → found_within result.found n }
 {
-    plain(BorrowedToken::Space, bytes.split_at(blank_len(bytes)).1)
-}
-
-fn blank_len(bytes: &[u8]) -> usize
-    ensures value { result ≡ prefix_len is_blank bytes.now }
-    ensures within { result ≤ length bytes.now }
-{
-    bytes
-        .iter()
-        .take_while(|b| **b == b' ' || **b == b'\t')
-        .count()
+    plain(
+        BorrowedToken::Space,
+        bytes.split_at(leading_blanks(bytes)).1,
+    )
 }

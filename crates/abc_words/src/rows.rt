@@ -1,10 +1,10 @@
 ghost use Rattle.std.specs.Prelude.{◌≡◌, ◌<◌, ◌≤◌, ◌+◌, ◌^◌, ◌∷◌, [], List, ℕ, reverse, length};
-ghost use Rattle.std.specs.Str.{bytes_eq};
 ghost use Rattle.abc_steps.specs.declared.step.BodyItem.{BodyItem};
 ghost use Rattle.abc_words.specs.Rows.{after_end, after_step, place_at};
 
 use abc_items::voices::claims;
 use abc_steps::BodyItem;
+use mus_units::bytes::is_same;
 
 /// The state of a voice at a place among the items of a body: the row of the place; whether the voice is current;
 /// whether a step before the place on its line claims any voice, and whether one claims this voice; and the last row
@@ -16,12 +16,6 @@ pub struct RowState {
     pub claimed: bool,
     pub own: bool,
     pub last: Option<usize>,
-}
-
-fn is_same(id: &[u8], other: &[u8]) -> bool
-    ensures { result ≡ bytes_eq id.now other.now }
-{
-    id == other
 }
 
 /// Returns the state before all items.

@@ -6,8 +6,8 @@ ghost use Rattle.mus_score.specs.Good.{IsGoodBody, longest_ticks, total_ticks};
 ghost use Rattle.mus_score.specs.GoodScore.{IsGoodVoice};
 ghost use Rattle.lay_shared.specs.Alike.{changes_from, event_changes, has_change, story_of};
 
-use mus_score::{Changes, Flat, Measure, Voice, flatten};
-use mus_units::{Clef, Key, Memory, Meter, Row, copy_optional_key};
+use mus_score::{Changes, Flat, Measure, Voice, copy_changes, flatten};
+use mus_units::{Clef, Key, Memory, Meter, Row};
 use std::alloc::Global;
 
 /// The changes before an event of a voice: in which measure, and after how many ticks of it.
@@ -81,14 +81,4 @@ fn has_change(changes: &Changes) -> bool
     ensures { result ≡ has_change changes.now }
 {
     changes.clef.is_some() || changes.key.is_some() || changes.meter.is_some()
-}
-
-fn copy_changes(alloc: Global, changes: &Changes) -> Result<Changes, Memory>
-    ensures { IfOk result (λ copy. copy ≡ changes.now) }
-{
-    Ok(Changes {
-        clef: changes.clef,
-        key: copy_optional_key(alloc, &changes.key)?,
-        meter: changes.meter,
-    })
 }

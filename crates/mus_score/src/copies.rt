@@ -25,7 +25,8 @@ fn copy_mentions(alloc: Global, mentions: &[Mention]) -> Result<Row<Mention>, Me
     Ok(copies)
 }
 
-fn copy_changes(alloc: Global, changes: &Changes) -> Result<Changes, Memory>
+/// Returns a copy of changes.
+pub fn copy_changes(alloc: Global, changes: &Changes) -> Result<Changes, Memory>
     ensures { IfOk result (λ c. c ≡ changes.now) }
 {
     Ok(Changes {

@@ -12,7 +12,7 @@ pub mod plain;
 pub mod score;
 pub mod times;
 
-pub use copies::copy_event;
+pub use copies::{copy_changes, copy_event};
 pub use good::{NodeContext, NodeVerdict, is_good_body, weights_within};
 pub use leaves::events;
 pub use limits::{HEAD_LIMIT, HIGHEST_HEAD, LOWEST_HEAD, MEASURE_LIMIT, USUAL_GAP, WIDE_GAP};
