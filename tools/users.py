@@ -181,6 +181,44 @@ def launcher_is_quick(place):
     hold(took[0] < 1.2 * took[1] + 0.1, f"launcher {took[0] * 20:.1f} ms a call, program {took[1] * 20:.1f} ms")
 
 
+@test()
+def program_ends_with_each_status(place):
+    """Each status, from the program itself: the command, the status, the whole output or how it begins, and errors."""
+    shutil.copy(f"{ROOT}/crates/all_tests/data/commands/dearer-choice.listing", f"{place.folder}/dearer.listing")
+    place.write("good.abc", GOOD)
+    place.write("bad.abc", BAD)
+    usage = place.run(f"{shlex.quote(place.program)} no").stderr
+    hold(usage.startswith("usage: ") and usage.count("\n") == 1, usage)
+    cases = [
+        ("set < good.abc", 0, "%!PS-Adobe-3.0\n", ""),
+        ("set < bad.abc", 1, "%!PS-Adobe-3.0\n", "tune 2 "),
+        ("set good.abc", 2, None, usage),
+        ("set --jobs 65 < good.abc", 2, None, usage),
+        ("\"$(printf 'make\\377')\" 1", 2, None, usage),
+        ("set < /", 3, None, ""),
+        ("set < good.abc > /dev/full", 4, None, ""),
+        ("inspect < good.abc", 6, None, "not pages at line 1\n"),
+        ("set < long", 7, None, ""),
+        ("check < dearer.listing", 8, "notleast ", ""),
+        ("paint < unopened", 10, None, "halt at token 1: Restore\n"),
+    ]
+    place.write("unopened", "grestore")
+    with open(f"{place.folder}/long", "wb") as it:
+        it.truncate(8_388_609)
+    for words, status, output, errors in cases:
+        ran = place.run(f"{shlex.quote(place.program)} {words}")
+        hold(ran.returncode == status, (words, ran))
+        hold(ran.stdout.startswith(output) if output else not ran.stdout, (words, ran.stdout[:200]))
+        hold(ran.stderr.startswith(errors) if errors else not ran.stderr, (words, ran.stderr))
+    # some of these limits leave memory for the program's start, but not for its words
+    endings = set()
+    many = " ".join(["x" * 60_000] * 20)
+    for kilobytes in range(2000, 8000, 250):
+        ran = place.run(f"ulimit -v {kilobytes}; exec {shlex.quote(place.program)} {many}")
+        endings.add((ran.returncode, ran.stdout))
+    hold((5, "") in endings and (2, "") in endings, endings)
+
+
 @test("script")
 def words_on_a_terminal(place):
     place.write("my book.abc", GOOD)
