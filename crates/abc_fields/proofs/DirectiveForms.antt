@@ -14,7 +14,7 @@ use Rattle.abc_lines.specs.Kinds.{is_blank, is_percent_line, is_field, kind_of, 
 use Rattle.abc_field.specs.Directives.{name_len, name_of, rest_of}
 use Rattle.abc_field.specs.Words.{is_empty, trimmed}
 use Rattle.abc_field.specs.WordSpelling.{EndsWord, IsFirstWord}
-use Rattle.abc_field.proofs.BlankLaws.{Stops, prefix-stops, start-stops, start-passes, blanks-passed, cut-reversed}
+use Rattle.abc_field.proofs.BlankLaws.{Stops, prefix-stops, leading-stops, leading-passes, blanks-passed, cut-reversed}
 use Rattle.abc_field.proofs.BlankLaws.{bare-trimmed, trimmed-between}
 use Rattle.abc_field.proofs.{ReadLaws.byte_case, WordLaws.{BeginsWord, following-begins}}
 use Rattle.abc_fields.specs.Defaults.{rest_if, said_by}
@@ -150,10 +150,10 @@ kind-takes line name LineKind.Directive some led =
       led = led.led;
       named = record {
         blanks = start;
-        blank = start-passes is_blank led.text;
+        blank = leading-passes is_blank led.text;
         some = some;
-        whole = subst (λ w. list_all unblank w ≡ true) same (start-passes unblank text);
-        parted = stops-parts after (start-stops unblank text);
+        whole = subst (λ w. list_all unblank w ≡ true) same (leading-passes unblank text);
+        parted = stops-parts after (leading-stops unblank text);
         cut = sym (take-append-drop (prefix_len is_blank led.text) led.text) ∙ ap (λ t. start ++ t) (sym found ∙ cut);
       };
       between = trimmed-between after;

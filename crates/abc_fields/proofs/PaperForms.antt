@@ -9,9 +9,9 @@ use Rattle.std.specs.Prelude.{◌&&◌, nat_le, Option, Some, None, IfSome, code
 use Rattle.std.specs.{List.list_all, Str.bytes_eq}
 use Rattle.abc_field.specs.Numbers.{is_digit, value_of}
 use Rattle.abc_field.specs.Words.{after_prefix}
-use Rattle.abc_field.proofs.BlankLaws.{Stops, prefix-stops, start-passes}
+use Rattle.abc_field.proofs.BlankLaws.{Stops, prefix-stops, leading-passes}
 use Rattle.abc_field.proofs.{
-  MeterForms.{following-takes, following-start},
+  MeterForms.{following-takes, following-leading},
   ReadLaws.{option_case, some_then, word_case},
 }
 use Rattle.abc_fields.specs.Lengths.{digit_len, with_decimals, decimals, whole_of, hundredths_of, in_units}
@@ -49,7 +49,7 @@ decimals-read : (w : ℕ) (ds rest : List ℕ)
 decimals-read w [] rest few all stops none = rw none (ap (λ v. read_as v rest) (omega arith))
 decimals-read w (d ∷ ds) rest few all stops none =
     let cut = digits-cut (d ∷ ds) rest all stops in
-    rw (following-start (codes ".") ((d ∷ ds) ++ rest), cut.0, cut.1) (with-read w d ds rest few)
+    rw (following-leading (codes ".") ((d ∷ ds) ++ rest), cut.0, cut.1) (with-read w d ds rest few)
 
 point-stops : (ds rest : List ℕ) → Stops is_digit rest → Stops is_digit (point_spelled ds rest)
 point-stops [] rest stops = stops
@@ -113,7 +113,7 @@ decimals-takes w ds s whole =
     let same : codes "." ++ (digits ++ rest) ≡ s =
     ap (λ x. codes "." ++ x) parts ∙ sym (following-takes (codes ".") s t e) in
     subst (λ x. IfSome (with_decimals w digits rest) (IsNumberBefore (ds ++ x))) same
-    (with-takes w ds digits rest whole (start-passes is_digit t)))
+    (with-takes w ds digits rest whole (leading-passes is_digit t)))
     (λ none. record {
       number = record { whole = ds; decimals = [] };
       good = record { some = whole.some; whole_digits = whole.all; few = omega arith; decimal_digits = refl };
@@ -126,7 +126,7 @@ unfolding hundredths_of
 number-takes s =
     let digits : List ℕ = take (digit_len s) s in
     let left : List ℕ = drop (digit_len s) s in
-    some_then (IsNumberBefore s) _ (whole_of digits) (whole-takes digits (start-passes is_digit s))
+    some_then (IsNumberBefore s) _ (whole_of digits) (whole-takes digits (leading-passes is_digit s))
     (λ w whole.
     subst (λ t. IfSome (decimals w left (after_prefix (codes ".") left)) (IsNumberBefore t))
     (take-append-drop (digit_len s) s)
