@@ -10,7 +10,7 @@ over those that the program needs. With --anew the gate proves everything from n
 gets it, and any other kit does that anyway. Other words go to rt ci as they are.
 
 The script reads the time of each process four times a second until the process ends, so a row lacks the last moment of
-each process. The last line is the system's own count.
+each process. The last two lines are the system's own count, and the longest chain of crates that wait for each other.
 """
 import glob
 import os
@@ -155,6 +155,26 @@ def table(used, watch):
     row("of these the proofs that the program needs", f"{program:.1f}", "", "", "", "")
 
 
+def longest_chain(used, minutes):
+    """Returns the crates, lowest first, whose proofs take longest one after another, each using the one before it."""
+    chains = {}
+
+    def chain_to(name):
+        if name not in chains:
+            under = [chain_to(it) for it in used[name] if it in used]
+            chains[name] = max(under, key=lambda it: sum(minutes[one] for one in it), default=[]) + [name]
+        return chains[name]
+
+    return max((chain_to(it) for it in used), key=lambda it: sum(minutes[one] for one in it), default=[])
+
+
+def tell_chain(used, watch):
+    minutes = {name: watch.minutes(name, "proof") for name in used}
+    chain = longest_chain(used, minutes)
+    each = ", ".join(f"{name} {minutes[name]:.1f}" for name in chain)
+    print(f"The longest chain of proofs takes {sum(minutes[it] for it in chain):.1f} minutes: {each}.")
+
+
 def words_for(words):
     """Returns the words without --anew if this kit's rt ci has no such flag."""
     told = subprocess.run(["rt", "help"], stdout=subprocess.PIPE, stderr=subprocess.STDOUT, text=True).stdout
@@ -173,6 +193,7 @@ def gate(words, used):
     print()
     minutes, clock = (took.ru_utime + took.ru_stime) / 60, (time.monotonic() - begun) / 60
     print(f"By the system's count {minutes:.1f} processor minutes, in {clock:.1f} minutes by the clock.")
+    tell_chain(used, watch)
     return run.returncode
 
 

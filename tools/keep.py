@@ -35,7 +35,7 @@ def load(path):
     return made
 
 
-if {"-h", "--help"} & set(sys.argv[1:2]):
+if __name__ == "__main__" and {"-h", "--help"} & set(sys.argv[1:2]):
     print(__doc__, end="")
     sys.exit(0)
 sys.dont_write_bytecode = True
@@ -175,18 +175,27 @@ def check(crate, flags):
 
 
 def edits(crate, names):
-    """Tries edits, each over what those before it proved, and reports what each took."""
+    """Tries edits of the gate. Returns 1 if one isn't refused or isn't there."""
+    found = {os.path.basename(it).removesuffix(".edit"): it for it in rt.edits_of(crate)[0]}
+    missing = [it for it in names if it not in found]
+    if missing:
+        sys.exit(f"keep.py: {crate.name} has no edit {missing[0]}")
+    return 0 if try_edits(crate, [found[it] for it in names or found]) else 1
+
+
+def try_edits(crate, paths):
+    """Tries edits, each over what those before it proved, and reports what each took. Returns whether the prover
+    refused each."""
     prove_all([dep.name for dep in crate.below()])
-    good = [it for it in rt.edits_of(crate)[0] if not names or os.path.basename(it).removesuffix(".edit") in names]
-    failed = 0
+    each_refused = True
     with tempfile.TemporaryDirectory() as kept:
-        for edit in good:
+        for path in paths:
             before = resource.getrusage(resource.RUSAGE_CHILDREN)
-            refused, text = rt.must_fail(crate, edit, ["--jobs", "1"], kept)
+            came, text = rt.must_fail(crate, path, ["--jobs", "1"], kept)
             after = resource.getrusage(resource.RUSAGE_CHILDREN)
-            failed += not refused
+            each_refused &= came == rt.REFUSED
             print(f"{after.ru_utime - before.ru_utime:.0f} s: {text}", flush=True)
-    return 1 if failed else 0
+    return each_refused
 
 
 def build(crate, _):
@@ -216,11 +225,12 @@ CALLS = {"check": check, "edits": edits, "build": build}
 
 
 def main(words):
-    os.makedirs(KEPT, exist_ok=True)
     if words[:1] and words[0] in CALLS and len(words) > 1:
         return CALLS[words[0]](CRATES[words[1]], words[2:])
     prove_all(words or list(CRATES))
     return 0
 
 
-sys.exit(main(sys.argv[1:]))
+os.makedirs(KEPT, exist_ok=True)
+if __name__ == "__main__":
+    sys.exit(main(sys.argv[1:]))

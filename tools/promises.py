@@ -4,9 +4,10 @@
 usage: tools/promises.py
 
 PROMISES.md has a section per crate. Each public call has a row, and the clauses of a row are clauses of its calls. A
-row of a single call names each of its clauses. Definitions are in specs, edits and tests exist, and each edit is named.
-In README.md each crate has a row, and calls, clauses and the program's promises exist. Prints what is wrong, and ends
-with 1 if something is.
+row of a single call names each of its clauses. Definitions are in specs, edits and tests exist, and each edit is named,
+those of plants/ too. Each edit still fits: each text that it replaces stands once in the file that it names. In
+README.md each crate has a row, and calls, clauses and the program's promises exist. Prints what is wrong, and ends with
+1 if something is.
 """
 import glob
 import os
@@ -95,6 +96,33 @@ def tests_of():
     for path in glob.glob("crates/*/src/**/*.rt", recursive=True):
         tests.update(re.findall(rf"#\[test\]\s*(?:#\[[^\n]*\]\s*)*(?:pub )?fn ({NAME})", read(path)))
     return tests
+
+
+def edits_of(crate):
+    """Returns the paths of a crate's edits by name: those that the gate tries, and those of plants/."""
+    paths = glob.glob(f"crates/{crate}/must-fail/*.edit") + glob.glob(f"plants/{crate}/*.edit")
+    edits = {os.path.basename(path)[:-5]: path for path in sorted(paths)}
+    if len(edits) < len(paths):
+        wrong(crate, "an edit stands in must-fail/ and in plants/")
+    return edits
+
+
+def check_fit(crate, path):
+    """Checks that each 'old:' text of an edit stands once in the file that the edit names before it."""
+    file, texts, count = None, {}, 0
+    for row in read(path).split("\n"):
+        head, _, text = row.partition(": ")
+        if head == "file":
+            file = f"crates/{crate}/{text.strip()}"
+            texts[file] = texts.get(file) or (read(file) if os.path.isfile(file) else "")
+        elif head == "old":
+            old, count = text, count + 1
+            if texts.get(file, "").count(old) != 1:
+                wrong(crate, f"{path}: an old text stands {texts.get(file, '').count(old)} times in {file}")
+        elif row.startswith("new:"):
+            texts[file] = texts[file].replace(old, text)
+    if not count:
+        wrong(crate, f"{path}: it has no old text")
 
 
 def definitions_of():
@@ -218,7 +246,7 @@ def check_row(crate, row, everything, tests, files):
         check_definition(crate, entry, files, "std's" in row["Definitions"])
     edits = names(row.get("Edits", ""))
     for edit in edits:
-        if not os.path.exists(f"crates/{crate}/must-fail/{edit}.edit"):
+        if edit not in edits_of(crate):
             wrong(crate, f"{', '.join(calls)}: no edit '{edit}'")
     check_tests(crate, calls, row.get("Test", ""), tests)
     return calls, edits
@@ -237,11 +265,11 @@ def check_crate(crate, section, everything, tests, files):
     for call in public:
         if call.name not in listed and call.name != "main":
             wrong(crate, f"the public call '{call.name}' ({call.module}) isn't listed")
-    edits = {edit for _, edits in found for edit in edits}
-    for path in sorted(glob.glob(f"crates/{crate}/must-fail/*.edit")):
-        edit = os.path.basename(path)[:-5]
-        if edit not in edits:
+    named = {edit for _, edits in found for edit in edits}
+    for edit, path in edits_of(crate).items():
+        if edit not in named:
             wrong(crate, f"the edit '{edit}' isn't named")
+        check_fit(crate, path)
 
 
 def main():
@@ -258,6 +286,9 @@ def main():
     for section in document:
         if section not in crates:
             wrong(section, "has a section, but is no crate")
+    for folder in sorted(glob.glob("plants/*")):
+        if os.path.basename(folder) not in crates:
+            wrong(folder, "has edits of no crate")
     check_readme(crates, everything, files)
     if WRONG:
         print("\n".join(WRONG))
