@@ -154,13 +154,65 @@ by-place tune (Some place) = whole (first_fault [] (head_lines tune place)) (fou
           clear = first.clear;
         }
 
+-- a first fault of lines that follow others is found
+reaches : (before done : List Line) (line : Line) (after : List Line) (fault : Fault)
+    → IsFaultAfter (done ++ before) line fault → ClearAfter done before
+    → first_fault (ids_of (fields_of done)) (before ++ line ∷ after) ≡ Some fault
+reaches [] done line after fault is clear =
+    let ids = ids_with (ids_of (fields_of done)) (field_of line.text) in
+    ap (λ o. option_or o (first_fault ids after))
+    (fault-reaches done line fault (subst (λ ls. IsFaultAfter ls line fault) (append-nil done) is))
+reaches (first ∷ before) done line after fault is clear =
+    let ids = ids_with (ids_of (fields_of done)) (field_of first.text) in
+    let none : fault_of_line done first ≡ None = option_case (λ o. o ≡ None) (fault_of_line done first)
+    (λ g e. absurd (clear [] first before g refl
+    (subst (λ ls. IsFaultAfter ls first g) (sym (append-nil done))
+    (some_holds (IsFaultAfter done first) e (fault-is done first)))))
+    (λ _. refl) in
+    let later = reaches before (done ++ first ∷ []) line after fault
+    (subst (λ ls. IsFaultAfter ls line fault) (sym (append_assoc done (first ∷ []) before)) is)
+    (λ b l a g cut x.
+    clear (first ∷ b) l a g (ap (λ ls. first ∷ ls) cut)
+    (subst (λ ls. IsFaultAfter ls l g) (append_assoc done (first ∷ []) b) x)) in
+    ap (λ o. option_or o (first_fault ids (before ++ line ∷ after))) none
+    ∙ ap (λ known. first_fault known (before ++ line ∷ after)) (sym (ids-push [] done first))
+    ∙ later
+
+none_by : (tune : TuneText) (place : Option ℕ) → IsClearBy tune place → fault_by tune place ≡ None
+none_by tune None clear = absurd clear
+none_by tune (Some place) clear =
+    option_case (λ o. o ≡ None) (fault_by tune (Some place))
+    (λ g e.
+    let first =
+    MatchOption-at_some (IsClearBy tune (Some place)) (IsFaultBy tune (Some place)) g e (by-place tune (Some place)) in
+    absurd (clear first.before first.line first.after g first.cut first.is))
+    (λ _. refl)
+
+first_by : (tune : TuneText) (place : Option ℕ) (fault : Fault)
+    → IsFaultBy tune place fault → fault_by tune place ≡ Some fault
+first_by tune None fault is = ap Some is
+first_by tune (Some place) fault first =
+    ap (first_fault []) first.cut ∙ reaches first.before [] first.line first.after fault first.is first.clear
+
+-- and a header that has no fault, or that fault, is read so
+pub header-none : (tune : TuneText) → IsClearHeader tune → header_fault tune ≡ None
+unfolding header_fault
+header-none tune clear = none_by tune (key_place tune.lines) clear
+
+pub header-first : (tune : TuneText) (fault : Fault) → IsFaultOfHeader tune fault → header_fault tune ≡ Some fault
+unfolding header_fault
+header-first tune fault is = first_by tune (key_place tune.lines) fault is
+
 pub header-clear : (tune : TuneText) → header_fault tune ≡ None → IsClearHeader tune
 unfolding header_fault
 header-clear tune h =
     MatchOption-at_none (IsClearHeader tune) (IsFaultOfHeader tune) h (by-place tune (key_place tune.lines))
 
-pub header-refusal : (tune : TuneText) (e : TuneError) → IsHeaderFault tune e → IsHeaderRefusal tune e
+pub header-first-is : (tune : TuneText) (fault : Fault) → header_fault tune ≡ Some fault → IsFaultOfHeader tune fault
 unfolding header_fault
-header-refusal tune TuneError.Memory h = tt
-header-refusal tune (TuneError.Fault fault) h =
+header-first-is tune fault h =
     MatchOption-at_some (IsClearHeader tune) (IsFaultOfHeader tune) fault h (by-place tune (key_place tune.lines))
+
+pub header-refusal : (tune : TuneText) (e : TuneError) → IsHeaderFault tune e → IsHeaderRefusal tune e
+header-refusal tune TuneError.Memory h = tt
+header-refusal tune (TuneError.Fault fault) h = header-first-is tune fault h

@@ -38,9 +38,9 @@ use Rattle.abc_fields.proofs.DirectiveForms.{Begins, kind-begins, directive-take
 use Rattle.abc_fields.proofs.PaperForms.{length-writes, length-read, scale-writes, scale-read}
 
 -- a line is read as stating a value exactly when it states it
-record Reads {X : Type 0} (States : Line → X → Type 0) (f : Line → Option X) : Type 0 where
-  takes : (line : Line) → IfSome (f line) (States line)
-  reaches : (line : Line) (x : X) → States line x → f line ≡ Some x
+pub record Reads {X : Type 0} (States : Line → X → Type 0) (f : Line → Option X) : Type 0 where
+  pub takes : (line : Line) → IfSome (f line) (States line)
+  pub reaches : (line : Line) (x : X) → States line x → f line ≡ Some x
 
 -- The last value stated.
 module _ {X : Type 0} (States : Line → X → Type 0) (f : Line → Option X) (reads : Reads States f) where
@@ -67,7 +67,7 @@ module _ {X : Type 0} (States : Line → X → Type 0) (f : Line → Option X) (
       })
       (λ none. (λ x states. none-some x (sym none ∙ reads.reaches line x states), silent))
 
-  last-is : (lines : List Line) → IsLastIfAny States lines (last_of f lines)
+  pub last-is : (lines : List Line) → IsLastIfAny States lines (last_of f lines)
   last-is [] = tt
   last-is (line ∷ lines) = last_more line lines (last_of f lines) (last-is lines)
 
@@ -88,7 +88,7 @@ module _ {X : Type 0} (States : Line → X → Type 0) (f : Line → Option X) (
       sym (ap (last_of f) last.cut ∙ last-following last.before last.after last.line x
       (rw (silent-unread last.after last.silent) (reads.reaches last.line x last.states)))
 
-  last-or : (default : X) (lines : List Line) → IsLastOr States default lines (unwrap_or (last_of f lines) default)
+  pub last-or : (default : X) (lines : List Line) → IsLastOr States default lines (unwrap_or (last_of f lines) default)
   last-or default lines = either (last_of f lines) (last-is lines)
     where
       either : (o : Option X) → IsLastIfAny States lines o → IsLastOr States default lines (unwrap_or o default)

@@ -173,6 +173,11 @@ abbrev pub IsHeaderFault : TuneText → TuneError → Type 0
 IsHeaderFault tune TuneError.Memory = ⊤
 IsHeaderFault tune (TuneError.Fault fault) = header_fault tune ≡ Some fault
 
+-- the result of a header: its values if it has no fault, or its first fault
+abbrev pub IsHeaderResult : TuneText → Defaults → Result Header Fault → Type 0
+IsHeaderResult tune defaults (Ok header) = IsHeaderOf tune defaults header × (header_fault tune ≡ None)
+IsHeaderResult tune defaults (Err fault) = header_fault tune ≡ Some fault
+
 -- each of a list
 abbrev pub AreGoodFields : List Field → Type 0
 AreGoodFields [] = ⊤

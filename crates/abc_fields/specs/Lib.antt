@@ -3,6 +3,7 @@ pub mod DirectiveSpelling
 pub mod FileHeader
 pub mod Good
 pub mod HeaderFaults
+pub mod HeaderValues
 pub mod Headers
 pub mod Lengths
 pub mod PaperSpelling

@@ -2,6 +2,7 @@ ghost use Rattle.std.specs.Prelude.{◌≡◌, ◌≤◌, ◌<◌, length, map, 
 ghost use Rattle.std.specs.Prelude.{unwrap_or, nat_lt, []};
 ghost use Rattle.std.specs.List.{filter_map};
 ghost use Rattle.std.specs.Option.{option_map, option_copied};
+ghost use Rattle.abc_lines.specs.Results.{IsOnlyFault, IsOnlyResult};
 ghost use Rattle.abc_field.specs.Fields.{field_of, IsGoodField};
 ghost use Rattle.abc_field.specs.Keys.{key_over, IsGoodKeyText};
 ghost use Rattle.abc_field.specs.Last.{last_of};
@@ -10,11 +11,12 @@ ghost use Rattle.abc_fields.specs.Good.{IsGoodDefaults, GoodUnitIn};
 ghost use Rattle.abc_fields.specs.Voicing.{with_id, ids_after, ids_of, clef_for, wish_for, voice_from, voices_of};
 ghost use Rattle.abc_fields.specs.FileHeader.{AreStavesOf};
 ghost use Rattle.abc_fields.specs.HeaderFaults.{IsClearHeader, IsHeaderRefusal};
+ghost use Rattle.abc_fields.specs.HeaderValues.{AreValuesOf};
 ghost use Rattle.abc_fields.specs.Headers.{is_key_line, key_place, title_in, composer_in, tempo_in, key_in, meter_in};
 ghost use Rattle.abc_fields.specs.Headers.{unit_in, breaks_in, spread_in, key_signs, key_clef, unit_by, meter_from};
 ghost use Rattle.abc_fields.specs.Headers.{staves_from, header_of, fields_of, line_fault, field_fault, no_key};
 ghost use Rattle.abc_fields.specs.Headers.{first_fault, header_fault, first_line_number, head_lines, IsHeaderOf};
-ghost use Rattle.abc_fields.specs.Headers.{IsHeaderFault, AreGoodFields, HasGoodValues, IsGoodHeader};
+ghost use Rattle.abc_fields.specs.Headers.{IsHeaderFault, IsHeaderResult, AreGoodFields, HasGoodValues, IsGoodHeader};
 
 use crate::defaults::{Defaults, last_staves, text_of};
 use crate::voicing::{VoiceIds, mention, voices_of};
@@ -57,8 +59,13 @@ pub fn read_header(alloc: Global, tune: &TuneText, defaults: &Defaults) -> Resul
     ensures none { IfOk result (λ header. header_fault tune.now ≡ None) }
     ensures good { IfOk result (λ header. IsGoodHeader tune.now header) }
     ensures first { IfErr result (λ e. IsHeaderRefusal tune.now e) }
+    // Of each kind the last line that says a value counts.
+    ensures values { IfOk result (λ header. AreValuesOf tune.now defaults.now header) }
     ensures staves { IfOk result (λ header. AreStavesOf tune.now defaults.now header.staves) }
     ensures fault { IfErr result (λ e. IsHeaderFault tune.now e) }
+    // There is no other header, and there is no other first fault.
+    ensures only { IfOk result (λ header. IsOnlyResult (IsHeaderResult tune.now defaults.now) (Ok header)) }
+    ensures only_fault { IfErr result (λ e. IsOnlyFault (IsHeaderResult tune.now defaults.now) e) }
 {
     tune_header(alloc, tune, defaults)
 }

@@ -3,3 +3,4 @@ pub mod Forward
 pub mod Good
 pub mod Kinds
 pub mod Lines
+pub mod Results

@@ -1,3 +1,4 @@
 pub mod Prefixes
 pub mod GoodLaws
 pub mod Line
+pub mod OnePrefix

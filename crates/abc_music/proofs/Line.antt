@@ -2,11 +2,11 @@
 use Rattle.std.proofs.Common.{◌≡◌, ℕ, ◌≤◌, ◌<◌, Bool, List, [], ◌∷◌, ◌++◌, length, Option, Some, None, refl, sym, ap}
 use Rattle.std.proofs.Common.{◌∙◌, subst, arith, append_assoc, append-nil, length-append, ◌+◌, option_map}
 use Rattle.abc_lines.specs.declared.{book.Line.Line, fault.Fault.Fault, fault.TuneError.TuneError}
-use Rattle.abc_notes.specs.Parts.{IsLongest, HasNone}
+use Rattle.abc_notes.specs.Parts.{IsLongest}
 use Rattle.abc_notes.specs.Chords.{ChordForm, chord_at}
 use Rattle.abc_notes.specs.Graces.{GraceForm, grace_at}
 use Rattle.abc_notes.specs.declared.part.Flaw.{Flaw}
-use Rattle.abc_notes.proofs.PartLaws.{less, longest_of, none_of, longest_is, at_nil}
+use Rattle.abc_notes.proofs.PartLaws.{less, longest_of, none_of, longest_is}
 use Rattle.abc_pieces.specs.Forms.{Form, chord_form, grace_form, StandsAt, token_meant, after, opening}
 use Rattle.abc_pieces.specs.Reading.{FormAndRest, read, piece_at, token_and_rest, meaning, class_of, bracket_form}
 use Rattle.abc_pieces.specs.Reading.{chord_read, grace_read}
@@ -19,6 +19,7 @@ use Rattle.abc_music.specs.declared.token.TokenCursor.{TokenCursor}
 use Rattle.abc_music.specs.Tokens.{Tokens, ends, goes, Faulty, stuck, later, GivesTokens, clear, breaks, leads, column}
 use Rattle.abc_music.specs.Tokens.{with_token, TokensOf, GivesTokensAt, GivesTokensOf, IsLineFlaw, fault_at, IsErrorOf}
 use Rattle.abc_music.specs.Tokens.{IsStart, GivesTokensFrom, LeadsTo}
+use Rattle.abc_music.proofs.OnePrefix.{no_list}
 
 abbrev longest_piece : Bool → PieceBefore → List ℕ → Form → List ℕ → Type 0
 longest_piece bang before s f rest = IsLongest Form (StandsAt bang before) s f rest
@@ -142,68 +143,6 @@ pub none_at : (bang : Bool) (before : PieceBefore) (s t : List ℕ) (byte : ℕ)
     → s ≡ byte ∷ t → None ≡ meaning (piece_at bang before s) → piece_at bang before (byte ∷ t) ≡ None
 none_at bang before s t byte cut none = ap (piece_at bang before) (sym cut) ∙ no_read (piece_at bang before s) none
 
--- the two laws: one list only, and a fault only if there is none
-nothing_read : (bang : Bool) (before : PieceBefore) (f : Form) (rest : List ℕ) → longest_piece bang before [] f rest → ⊥
-nothing_read bang before f rest l =
-    let e : None ≡ read f rest = sym (at_nil (piece_reader bang before)) ∙ is_read bang before [] f rest l in cc
-
-nil_list : (bang : Bool) (n : ℕ) (before : PieceBefore) (s : List ℕ) (us : List Placed)
-    → s ≡ [] → Tokens bang n before s us → us ≡ []
-nil_list bang n _ _ _ e (ends before) = refl
-nil_list bang n _ _ _ e (goes before s f rest ts all l more is) =
-    absurd (nothing_read bang before f rest (subst (λ t. longest_piece bang before t f rest) e l))
-
--- the rest of a list of tokens, after the piece just read
-pub record Following (bang : Bool) (n : ℕ) (before : PieceBefore) (s : List ℕ) (us : List Placed) (f : Form)
-    (rest : List ℕ) : Type 0 where
-  pub ts : List Placed
-  pub tokens : Tokens bang n (after f) rest ts
-  pub is : us ≡ with_token (token_meant f) (column n (length s)) ts
-
-abbrev one_of_both : Form → List ℕ → Form × List ℕ
-one_of_both f x = (f, x)
-
-same_piece : (f g : Form) (x y : List ℕ) → read f x ≡ read g y → (f ≡ g) × (x ≡ y)
-same_piece f g x y e =
-    let is : one_of_both f x ≡ one_of_both g y = cc in
-    (ap (λ (z : Form × List ℕ). z.0) is, ap (λ (z : Form × List ℕ). z.1) is)
-
-after_it : (bang : Bool) (n : ℕ) (before : PieceBefore) (s : List ℕ) (us : List Placed) (f : Form) (rest : List ℕ)
-    → piece_at bang before s ≡ read f rest → Tokens bang n before s us → Following bang n before s us f rest
-after_it bang n _ _ _ f rest e (ends before) =
-    absurd (let h : None ≡ read f rest = sym (at_nil (piece_reader bang before)) ∙ e in cc)
-after_it bang n _ _ _ f rest e (goes before s g others ts all l more is) =
-    let same = same_piece g f others rest (sym (is_read bang before s g others l) ∙ e) in
-    record {
-      ts = ts;
-      tokens = subst (λ x. Tokens bang n (after f) x ts) same.1
-          (subst (λ h. Tokens bang n (after h) others ts) same.0 more);
-      is = is ∙ ap (λ h. with_token (token_meant h) (column n (length s)) ts) same.0;
-    }
-
-pub one_list : (bang : Bool) (n : ℕ) (before : PieceBefore) (s : List ℕ) (ts us : List Placed)
-    → Tokens bang n before s ts → Tokens bang n before s us → ts ≡ us
-one_list bang n _ _ _ us (ends before) b = sym (nil_list bang n before [] us refl b)
-one_list bang n _ _ _ us (goes before s f rest ts all l more is) b =
-    let r = after_it bang n before s us f rest (is_read bang before s f rest l) b in
-    is
-    ∙ ap (λ x. with_token (token_meant f) (column n (length s)) x)
-    (one_list bang n (after f) rest ts r.ts more r.tokens)
-    ∙ sym r.is
-
-stuck_tokens : (bang : Bool) (n : ℕ) (before : PieceBefore) (byte : ℕ) (t s : List ℕ) (ts : List Placed)
-    → s ≡ byte ∷ t → HasNone Form (StandsAt bang before) s → Tokens bang n before s ts → ⊥
-stuck_tokens bang n _ byte t _ _ e h (ends before) = cc
-stuck_tokens bang n _ byte t _ _ e h (goes before s f rest ts all l more is) = h f rest l.stands
-
-pub no_list : (bang : Bool) (n : ℕ) (before : PieceBefore) (at : ℕ) (s : List ℕ) (flaw : Flaw) (ts : List Placed)
-    → Faulty bang before at s flaw → Tokens bang n before s ts → ⊥
-no_list bang n _ _ _ _ ts (stuck before at byte s flaw h is) b =
-    stuck_tokens bang n before byte s (byte ∷ s) ts refl h b
-no_list bang n _ _ _ _ ts (later before at s f rest flaw l more) b =
-    let r = after_it bang n before s ts f rest (is_read bang before s f rest l) b in
-    no_list bang n (after f) (length s) rest flaw r.ts more r.tokens
-
 pub stuck_at : (bang : Bool) (line : Line) (place at : TokenCursor) (so_far : List Placed) (byte : ℕ) (t : List ℕ)
     (flaw : Flaw) (fault : Fault)
     → LeadsTo bang line place so_far at → at.rest.now ≡ byte ∷ t
@@ -253,7 +192,7 @@ error_by bang line ts fault None prefix e = absurd cc
 error_by bang line ts fault (Some flaw) prefix e =
     let whole = prefix_flaw bang (length line.text) PieceBefore.Other 0 line.text ts (Some flaw) flaw prefix refl in
     let is : fault ≡ fault_at line flaw = cc in
-    (flaw, whole, is, λ us. no_list bang (length line.text) PieceBefore.Other 0 line.text flaw us whole)
+    (flaw, whole, is, λ us. no_list bang line.text flaw us whole)
 
 pub error_of : (bang : Bool) (line : Line) (ts : List Placed) (fault : Option Fault) (one : Fault)
     → GivesTokensOf bang line ts fault → fault ≡ Some one → IsErrorOf bang line (TuneError.Fault one)

@@ -2,7 +2,7 @@
 -- line that has no such list.
 use Prim.Native.Char.{code}
 use Rattle.std.specs.Prelude.{◌≡◌, ℕ, ◌+◌, ◌-◌, ◌≤◌, ◌<◌, List, [], ◌∷◌, ◌++◌, length, Bool, ◌==◌, if◌then◌else◌}
-use Rattle.std.specs.Prelude.{Option, Some, None, MatchBool, MatchOption, option_map}
+use Rattle.std.specs.Prelude.{Option, Some, None, Result, Ok, Err, MatchBool, MatchOption, option_map}
 use Rattle.abc_lines.specs.declared.book.Line.{Line}
 use Rattle.abc_lines.specs.declared.fault.Fault.{Fault}
 use Rattle.abc_lines.specs.declared.fault.FaultKind.{FaultKind}
@@ -117,6 +117,17 @@ IsErrorOf bang line (TuneError.Fault fault) =
 abbrev pub GivesTokensOf : Bool → Line → List Placed → Option Fault → Type 0
 GivesTokensOf bang line ts fault =
     (end : Option Flaw) × GivesTokensAt bang line.text ts end × (fault ≡ option_map (fault_at line) end)
+
+-- no other tokens come before the first fault, and there is no other such fault
+abbrev pub IsOnlyPrefix : Bool → Line → List Placed → Option Fault → Type 0
+IsOnlyPrefix bang line ts fault =
+    (others : List Placed) (other : Option Fault)
+    → GivesTokensOf bang line others other → (ts ≡ others) × (fault ≡ other)
+
+-- the result of a music line: its tokens, or its first fault if it has no list of tokens
+abbrev pub IsLineResult : Bool → Line → Result (List Placed) Fault → Type 0
+IsLineResult bang line (Ok ts) = TokensOf bang line.text ts
+IsLineResult bang line (Err fault) = IsErrorOf bang line (TuneError.Fault fault)
 
 -- the cursor at the start of a line
 pub record IsStart (line : Line) (place : TokenCursor) : Type 0 where

@@ -1,12 +1,14 @@
-ghost use Rattle.std.specs.Prelude.{◌≡◌, ◌≢◌, ◌≤◌, ◌<◌, ◌+◌, ◌-◌, ◌^◌, ◌++◌, ◌∷◌, ℕ, List, length, IfOk, IfErr, OnOk};
-ghost use Rattle.std.specs.Prelude.{[], None};
+ghost use Rattle.std.specs.Prelude.{◌≡◌, ◌≢◌, ◌≤◌, ◌<◌, ◌+◌, ◌-◌, ◌^◌, ◌++◌, ◌∷◌, ℕ, length, IfOk, IfErr, OnOk};
+ghost use Rattle.std.specs.Prelude.{[], None, Ok};
 ghost use Rattle.{abc_lines.specs.{Kinds.code, Good.IsGoodLine}, abc_notes.specs.Chords.{chord_at}};
+ghost use Rattle.abc_lines.specs.Results.{IsOnlyFault, IsOnlyResult};
 ghost use Rattle.abc_pieces.specs.Forms.{opening, is_kept_field};
 ghost use Rattle.abc_pieces.specs.declared.token.BracketOpening.TheVariants.{Chord};
 ghost use Rattle.abc_pieces.specs.Reading.{piece_at, token_of, found_within};
 ghost use Rattle.abc_music.specs.declared.token.Placed.{Placed};
 ghost use Rattle.abc_music.specs.Good.{AreGoodTokens};
 ghost use Rattle.abc_music.specs.Tokens.{TokensOf, IsErrorOf, GivesTokensOf, IsFull, IsStart, IsWithinLine, PartOf};
+ghost use Rattle.abc_music.specs.Tokens.{IsLineResult, IsOnlyPrefix};
 ghost use Rattle.abc_music.specs.Tokens.{column, with_token, fault_at, kind_after, kind_if, IsBracketFlaw, IsLineFlaw};
 ghost use Rattle.abc_music.specs.Tokens.{IsOwnFlaw};
 
@@ -25,16 +27,17 @@ use std::alloc::Global;
 const MOST: usize = 1000;
 
 /// Returns the tokens of a music line with their columns, or the first fault of the line. If `bang` is set, `!` is a
-/// line break. Linear in the line.
+/// line break.
 pub fn read_music(alloc: Global, line: &Line, bang: bool) -> Result<Row<Placed>, TuneError>
     requires { IsGoodLine line.now }
     // The result is the list of tokens.
     ensures found { IfOk result (λ tokens. TokensOf bang line.now.text tokens) }
-    // There is no other list.
-    ensures only { IfOk result
-        (λ tokens. (others : List Placed) → TokensOf bang line.now.text others → tokens ≡ others) }
+    // There is no other list, and no fault.
+    ensures only { IfOk result (λ tokens. IsOnlyResult (IsLineResult bang line.now) (Ok tokens)) }
     // A fault is the first of the line, and is returned only if there is no list.
     ensures fault { IfErr result (λ e. IsErrorOf bang line.now e) }
+    // There is no other first fault.
+    ensures only_fault { IfErr result (λ e. IsOnlyFault (IsLineResult bang line.now) e) }
     ensures good { IfOk result (λ tokens. AreGoodTokens tokens) }
 {
     let prefix = read_prefix(alloc, line, bang)?;
@@ -45,10 +48,12 @@ pub fn read_music(alloc: Global, line: &Line, bang: bool) -> Result<Row<Placed>,
 }
 
 /// Returns the tokens of a music line up to its first fault, and that fault if it has one. If `bang` is set, `!` is a
-/// line break. Linear in the line.
+/// line break.
 pub fn read_prefix(alloc: Global, line: &Line, bang: bool) -> Result<TokenPrefix, Memory>
     requires { IsGoodLine line.now }
     ensures prefix { IfOk result (λ prefix. GivesTokensOf bang line.now prefix.tokens prefix.fault) }
+    // There are no other tokens, and there is no other first fault.
+    ensures only { IfOk result (λ prefix. IsOnlyPrefix bang line.now prefix.tokens prefix.fault) }
     ensures good { IfOk result (λ prefix. AreGoodTokens prefix.tokens) }
 {
     let mut tokens = Row::new(alloc);
@@ -75,7 +80,7 @@ pub fn start(line: &Line) -> TokenCursor<'_>
 }
 
 /// Returns the tokens of a music line from a cursor on, up to its first fault or the thousandth token, and what
-/// follows them. So a line can be read in parts, with only one part in memory at a time. Linear in what is read.
+/// follows them. So a line can be read in parts, with only one part in memory at a time.
 pub fn read_part<'a>(
     alloc: Global,
     line: &Line,

@@ -38,7 +38,7 @@ use Rattle.abc_notes.proofs.CutLaws.{first_same, rest_same, Local}
 use Rattle.abc_notes.proofs.CutLaws.{read_cut, joined_cut, leads_of_walk, wider, all_join, all_parts, clear_parts, free}
 use Rattle.abc_notes.proofs.CutLaws.{inner_free, not_named}
 use Rattle.abc_notes.proofs.CutLaws.{crossing, lone_at, cond_then, NameCut, name_upto-closes, name_upto-found}
-use Rattle.abc_notes.proofs.PartLaws.{Reader, stands_at, less}
+use Rattle.abc_notes.proofs.PartLaws.{Reader, stands_at, stops_at, less}
 use Rattle.abc_notes.proofs.PartLaws.{longest_of, longest_is, none_of, at_nil, walk-none, walk-some, left_none}
 use Rattle.abc_notes.proofs.PartLaws.{left_some, by_parts, parts_of_walk}
 use Rattle.abc_notes.proofs.PartLaws.{walk_of_parts, read_from, none_from, mapped_some}
@@ -823,5 +823,6 @@ module _ (bang : Bool) where
       by_stop [] e = absurd (let clash = sym stuck ∙ ap (λ (y : List ℕ). eqb (length y) 0) e in cc)
       by_stop (b ∷ x) e =
           let whole = some_left is_in_grace s w r cut some in
-          grace_flawed s slash t _ b x flaw whole (has_slash slash s t at) (grace_leads t (b ∷ x) e)
+          let none_there = none_of part_reader (b ∷ x) (ap (grace_part_at bang) (sym e) ∙ stops_at part_reader t) in
+          grace_flawed s slash t _ b x flaw whole (has_slash slash s t at) (grace_leads t (b ∷ x) e) none_there
           (ne_eqb b 125 (no_brace b x e)) flawed

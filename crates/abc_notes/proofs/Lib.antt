@@ -1,4 +1,5 @@
 pub mod Bounds
+pub mod ChordFaults
 pub mod ChordLaws
 pub mod CrossLaws
 pub mod CutLaws
@@ -7,6 +8,7 @@ pub mod InnerLaws
 pub mod ItemLaws
 pub mod LengthLaws
 pub mod NoteLaws
+pub mod PartFaults
 pub mod PartLaws
 pub mod RunLaws
 pub mod SpanLaws

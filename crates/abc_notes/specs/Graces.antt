@@ -13,7 +13,7 @@ use Rattle.abc_notes.specs.declared.part.GracePiece.{GracePiece}
 use Rattle.abc_notes.specs.Runs.{maybe, skip, span_all, begins}
 use Rattle.abc_notes.specs.Chords.{ChordForm, chord_then, IsChord, ChordFault, chord_at, senses}
 use Rattle.abc_notes.specs.Lengths.{length_from}
-use Rattle.abc_notes.specs.Parts.{Parts, LeadsByParts, Flawed, IsFlaw, goes_on_length, walk, is_done}
+use Rattle.abc_notes.specs.Parts.{Parts, HasNone, LeadsByParts, Flawed, IsFlaw, goes_on_length, walk, is_done}
 
 pub data GracePart : Type 0 where
   single : Inner → GracePart
@@ -105,7 +105,8 @@ pub data GraceFault (bang : Bool) : List ℕ → Flaw → Type 0 where
   grace_flawed : (text : List ℕ) (slash : Bool) (following : List ℕ) (parts : List GracePart) (byte : ℕ) (rest : List ℕ)
       (flaw : Flaw)
       → list_all is_in_grace text ≡ false → HasSlash text slash following
-      → GraceLeads bang following parts (byte ∷ rest) → (byte == code "}") ≡ false
+      → GraceLeads bang following parts (byte ∷ rest) → HasNone GracePart (StandsInGrace bang) (byte ∷ rest)
+      → (byte == code "}") ≡ false
       → GraceFlawed bang None following flaw
       → GraceFault bang text flaw
 

@@ -10,7 +10,7 @@ use Rattle.abc_lines.specs.Kinds.{kind_of}
 use Rattle.abc_steps.specs.declared.step.BodyItem.{BodyItem}
 use Rattle.abc_field.specs.declared.directive.Breaks.{Breaks}
 use Rattle.abc_fields.specs.declared.header.Header.{Header}
-use Rattle.set_book.proofs.LineFaults.{one_prefix_of}
+use Rattle.abc_music.proofs.OnePrefix.{one_prefix_of}
 use Rattle.abc_items.specs.Body.{ItemOrFault, KindGives, BodyGives, no_lines, one_line, judged_items, first_item_fault}
 use Rattle.abc_items.specs.Body.{items_in, IsBody, HasFault}
 use Rattle.abc_items.specs.Voices.{declared_ids}

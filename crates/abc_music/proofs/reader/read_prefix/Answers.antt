@@ -3,6 +3,7 @@ use Rattle.abc_music.specs.declared.token.LineRest.{LineRest}
 use Rattle.abc_music.specs.Tokens.{GivesTokensOf, GivesTokensFrom, PartOf}
 use Rattle.abc_music.proofs.GoodLaws.{good_prefix}
 use Rattle.abc_music.proofs.Line.{read_more}
+use Rattle.abc_music.proofs.OnePrefix.{one_prefix_of}
 use Rattle.abc_music.proofs.reader.read_prefix.Goals as goal
 
 pub loop-tokens-preserved : goal.loop-tokens-preserved
@@ -21,6 +22,12 @@ returns-in-End-clause-prefix c =
     rw c.in-End.is at c.in_ok-part.ensures.part in
     subst (λ us. GivesTokensOf c.args.bang c.args.line.now us c.in-End.fault) (sym c.in_ok-append.ensures.ok)
     (c.loop-tokens.invariant.read c.in_ok-part.part.tokens c.in-End.fault part)
+
+pub returns-in-End-clause-only : goal.returns-in-End-clause-only
+returns-in-End-clause-only c =
+    λ others other is.
+    one_prefix_of c.args.bang c.args.line.now c.append.new.self others c.in-End.fault other
+    (returns-in-End-clause-prefix c) is
 
 pub returns-in-End-clause-good : goal.returns-in-End-clause-good
 returns-in-End-clause-good c =

@@ -15,7 +15,7 @@ use Rattle.abc_notes.proofs.PartLaws.{none_of}
 use Rattle.abc_notes.proofs.InnerLaws.{inner_reader}
 use Rattle.abc_notes.proofs.CutLaws.{inner_append, all_parts}
 use Rattle.abc_notes.proofs.GraceLaws.{part_reader}
-use Rattle.set_book.proofs.PartFaults.{by_test, none_at_end, one_stop, never_done, one_flaw}
+use Rattle.abc_notes.proofs.PartFaults.{by_test, none_at_end, one_stop, never_done, one_flaw}
 
 -- ---- chords
 none_at_bracket : (bang : Bool) (rest : List ℕ) → HasNone Inner (StandsInside bang) (93 ∷ rest)
@@ -95,13 +95,14 @@ open_or_flawed bang text slash other x y ps f h k l m =
 
 pub one_grace_fault : (bang : Bool) (text : List ℕ) (f g : Flaw)
     → GraceFault bang text f → GraceFault bang text g → f ≡ g
-one_grace_fault bang _ _ _ (grace_unclosed text all) (grace_flawed _ _ _ _ _ _ _ some _ _ _ _) = cc
-one_grace_fault bang _ _ _ (grace_open text slash x ps h l) (grace_flawed _ other y _ _ _ g _ k _ _ b) =
+one_grace_fault bang _ _ _ (grace_unclosed text all) (grace_flawed _ _ _ _ _ _ _ some _ _ _ _ _) = cc
+one_grace_fault bang _ _ _ (grace_open text slash x ps h l) (grace_flawed _ other y _ _ _ g _ k _ _ _ b) =
     absurd (open_or_flawed bang text slash other x y ps g h k l b)
-one_grace_fault bang _ _ _ (grace_flawed text _ _ _ _ _ _ some _ _ _ _) (grace_unclosed _ all) = cc
-one_grace_fault bang _ _ _ (grace_flawed text slash x _ _ _ f _ h _ _ a) (grace_open _ other y qs k m) =
+one_grace_fault bang _ _ _ (grace_flawed text _ _ _ _ _ _ some _ _ _ _ _) (grace_unclosed _ all) = cc
+one_grace_fault bang _ _ _ (grace_flawed text slash x _ _ _ f _ h _ _ _ a) (grace_open _ other y qs k m) =
     absurd (open_or_flawed bang text other slash y x qs f k h m a)
-one_grace_fault bang _ _ _ (grace_flawed text slash x _ _ _ f _ h _ _ a) (grace_flawed _ other y _ _ _ g _ k _ _ b) =
+one_grace_fault bang _ _ _ (grace_flawed text slash x _ _ _ f _ h _ _ _ a)
+    (grace_flawed _ other y _ _ _ g _ k _ _ _ b) =
     one_flaw (part_reader bang) part_has_length (IsGraceOwn bang) (one_grace_own bang) None x f g a
     (subst (λ t. GraceFlawed bang None t g) (one_slash text other slash y x k h) b)
 one_grace_fault bang _ _ _ _ _ = refl
