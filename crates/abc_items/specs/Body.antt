@@ -178,6 +178,11 @@ pub record HasFault (header : Header) (lines : List Line) (fault : Fault) : Type
   pub gives_so : BodyGives header.breaks (take count lines) given
   pub first : first_item_fault (judged_items (declared_ids header) given) ≡ Some fault
 
+-- the result of a body: its items, or its first fault
+abbrev pub IsBodyResult : Header → List Line → Result (List BodyItem) Fault → Type 0
+IsBodyResult header lines (Ok items) = IsBody header lines items
+IsBodyResult header lines (Err fault) = HasFault header lines fault
+
 abbrev pub IsBodyError : Header → List Line → TuneError → Type 0
 IsBodyError header lines TuneError.Memory = ⊤
 IsBodyError header lines (TuneError.Fault fault) = HasFault header lines fault

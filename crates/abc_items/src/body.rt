@@ -1,12 +1,14 @@
 ghost use Rattle.std.specs.Prelude.{◌≡◌, ◌≤◌, ◌^◌, ◌∷◌, [], All, nat_lt, length, flat_map, OnOk, IfOk, IfErr, IfSome};
+ghost use Rattle.std.specs.Prelude.{Ok};
 ghost use Rattle.abc_music.specs.Good.{AreGoodTokens, IsGoodToken};
 ghost use Rattle.abc_items.specs.Good.{IsGoodItem};
 ghost use Rattle.abc_items.specs.Voices.{declared_ids};
 ghost use Rattle.abc_items.specs.Body.{gives, placed_given, item_of_field, is_line_joined, end_item, item_of_line_end};
-ghost use Rattle.abc_items.specs.Body.{item_judged, MusicGives, LineGives, BodyGives, IsBody, IsBodyError};
+ghost use Rattle.abc_items.specs.Body.{item_judged, MusicGives, LineGives, BodyGives, IsBody, IsBodyError, IsBodyResult};
 ghost use Rattle.abc_items.specs.Reading.{maybe_given, Reads, Stops, ReadsSome, StopsBy, LinesStop, judged_as};
 ghost use Rattle.abc_items.specs.Reading.{past_fault};
 ghost use Rattle.abc_lines.specs.Good.{IsGoodLine, size_of};
+ghost use Rattle.abc_lines.specs.Results.{IsOnlyFault, IsOnlyResult};
 ghost use Rattle.abc_lines.specs.declared.kind.LineKind.{LineKind};
 ghost use Rattle.abc_lines.specs.Kinds.{kind_of};
 ghost use Rattle.abc_field.specs.Fields.{field_of};
@@ -36,6 +38,9 @@ pub fn read_body(alloc: Global, header: &Header, lines: &[Line]) -> Result<Row<B
     ensures items { IfOk result (λ items. IsBody header.now lines.now items) }
     ensures good { IfOk result (λ items. All IsGoodItem items) }
     ensures fault { IfErr result (λ e. IsBodyError header.now lines.now e) }
+    // There are no other items, and there is no other first fault.
+    ensures only { IfOk result (λ items. IsOnlyResult (IsBodyResult header.now lines.now) (Ok items)) }
+    ensures only_fault { IfErr result (λ e. IsOnlyFault (IsBodyResult header.now lines.now) e) }
 {
     let mut body = Body {
         ids: declared_ids(alloc, header)?,

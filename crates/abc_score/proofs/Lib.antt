@@ -10,7 +10,9 @@ pub mod Ids
 pub mod Judging
 pub mod Lines
 pub mod Nested
+pub mod OneScore
 pub mod Parts
+pub mod Ranked
 pub mod Reaching
 pub mod Rising
 pub mod Rows

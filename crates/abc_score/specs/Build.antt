@@ -1,6 +1,6 @@
 -- The result of building a tune's score: the score of a body without a fault, or the first fault, of the body or, if
 -- it has none, of the score.
-use Rattle.std.specs.Prelude.{◌≡◌, ◌⊎◌, ⊤, List, drop, Bool, Some, None}
+use Rattle.std.specs.Prelude.{◌≡◌, ◌⊎◌, ⊤, List, drop, Bool, Some, None, Result, Ok, Err}
 use Rattle.abc_lines.specs.declared.book.Line.{Line}
 use Rattle.abc_lines.specs.declared.book.TuneText.{TuneText}
 use Rattle.abc_lines.specs.declared.fault.Fault.{Fault}
@@ -34,6 +34,11 @@ abbrev pub IsFaultOf : Header → TuneText → TuneError → Type 0
 IsFaultOf header tune TuneError.Memory = ⊤
 IsFaultOf header tune (TuneError.Fault fault) =
     HasFault header (body_lines header tune) fault ⊎ HasScoreFault header tune fault
+
+-- the result of a tune under its header: the score that it calls for, or its first fault
+abbrev pub IsScoreResult : Header → TuneText → Bool → Result Score Fault → Type 0
+IsScoreResult header tune flow (Ok score) = IsScoreOf header tune flow score
+IsScoreResult header tune flow (Err fault) = IsFaultOf header tune (TuneError.Fault fault)
 
 -- the same for a body that has been read
 abbrev pub IsErrorIn : Header → List BodyItem → TuneError → Type 0

@@ -1,6 +1,7 @@
-ghost use Rattle.std.specs.Prelude.{◌≡◌, ◌≤◌, None, length, drop, IfOk, IfErr};
+ghost use Rattle.std.specs.Prelude.{◌≡◌, ◌≤◌, None, Ok, length, drop, IfOk, IfErr};
 ghost use Rattle.std.specs.List.{All};
 ghost use Rattle.abc_lines.specs.Good.{IsGoodTune};
+ghost use Rattle.abc_lines.specs.Results.{IsOnlyFault, IsOnlyResult};
 ghost use Rattle.abc_fields.specs.Headers.{HasGoodValues, IsGoodHeader};
 ghost use Rattle.abc_items.specs.Good.{IsGoodItem};
 ghost use Rattle.abc_items.specs.Voices.{voice_ids};
@@ -9,7 +10,7 @@ ghost use Rattle.mus_score.specs.GoodScore.{IsGoodScore};
 ghost use Rattle.abc_score.specs.Faults.{score_faults};
 ghost use Rattle.abc_score.specs.Score.{score_of};
 ghost use Rattle.abc_score.specs.Order.{DoWordsRise};
-ghost use Rattle.abc_score.specs.Build.{IsErrorIn, IsFaultOf, IsScoreOf};
+ghost use Rattle.abc_score.specs.Build.{IsErrorIn, IsFaultOf, IsScoreOf, IsScoreResult};
 
 use crate::faults::fault_of_score;
 use crate::scores::score_with;
@@ -48,6 +49,25 @@ fn score_in(
 /// Returns the score of a tune under its header. If its body has a fault, returns the first one, or else the first
 /// fault of its score. With `flow` no bar is forced.
 pub fn build(
+    alloc: Global,
+    header: &Header,
+    tune: &TuneText,
+    flow: bool,
+) -> Result<Score, TuneError>
+    requires tune { IsGoodTune tune.now }
+    requires header { IsGoodHeader tune.now header.now }
+    ensures score { IfOk result (λ score. IsScoreOf header.now tune.now flow score) }
+    ensures fault { IfErr result (λ e. IsFaultOf header.now tune.now e) }
+    // There is no other score, and there is no other first fault.
+    ensures only { IfOk result (λ score. IsOnlyResult (IsScoreResult header.now tune.now flow) (Ok score)) }
+    ensures only_fault { IfErr result (λ e. IsOnlyFault (IsScoreResult header.now tune.now flow) e) }
+    ensures good { IfOk result IsGoodScore }
+{
+    tune_score(alloc, header, tune, flow)
+}
+
+/// Returns the score of a tune, or why there is none.
+fn tune_score(
     alloc: Global,
     header: &Header,
     tune: &TuneText,

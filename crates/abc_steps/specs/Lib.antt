@@ -1,9 +1,12 @@
 pub mod Counts
 pub mod Force
 pub mod Good
-pub mod Stored
 pub mod Kinds
 pub mod Lengths
 pub mod Looks
-pub mod Tuplets
 pub mod Places
+pub mod Said
+pub mod Stored
+pub mod Taking
+pub mod Tuplets
+pub mod Written

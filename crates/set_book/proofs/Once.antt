@@ -1,5 +1,5 @@
 -- A tune has one outcome, since each stage of its setting has one result.
-use Rattle.std.proofs.Common.{◌≡◌, ◌∙◌, refl, sym, ap, subst, ℕ, zero, ℤ, pos, List, [], ◌∷◌, Option, Some, None}
+use Rattle.std.proofs.Common.{◌≡◌, ◌∙◌, refl, sym, ap, subst, ℕ, zero, ℤ, pos, List, [], ◌∷◌, Option, Some, None, Bool}
 use Rattle.std.proofs.Common.{Result, Ok, Err, inl, inr}
 use Rattle.std.specs.Prelude.{MatchOption}
 use Rattle.abc_lines.specs.declared.book.Line.{Line}
@@ -9,8 +9,11 @@ use Rattle.abc_lines.specs.declared.fault.FaultKind.{FaultKind}
 use Rattle.abc_lines.specs.declared.fault.TuneError.{TuneError}
 use Rattle.abc_fields.specs.declared.defaults.Defaults.{Defaults}
 use Rattle.abc_fields.specs.declared.header.Header.{Header}
-use Rattle.abc_fields.specs.Headers.{header_fault}
+use Rattle.abc_fields.specs.Headers.{header_fault, IsHeaderResult}
 use Rattle.abc_fields.specs.Papers.{body_height, body_width}
+use Rattle.abc_fields.proofs.OneHeader.{one_header}
+use Rattle.abc_score.specs.Build.{IsFaultOf, IsScoreOf, IsScoreResult}
+use Rattle.abc_score.proofs.OneScore.{one_score}
 use Rattle.mus_units.specs.declared.key.Key.{Key}
 use Rattle.mus_score.specs.declared.score.Score.{Score}
 use Rattle.mus_score.specs.GoodScore.{IsGoodScore}
@@ -30,7 +33,6 @@ use Rattle.set_tune.specs.Setting.{of_share, of_move, no_way, too_tall}
 use Rattle.set_book.specs.declared.outcome.Outcome.{Outcome}
 use Rattle.set_book.specs.Outcomes.{IsResult, IsOutcome, AreOutcomes}
 use Rattle.set_book.specs.Once.{HaveOneOutcome}
-use Rattle.set_book.proofs.Scores.{Writes, one_header, writes_once}
 use Rattle.set_book.proofs.Layouts.{one_layout, one_way, no_way_laid}
 use Rattle.set_book.proofs.Stages.{IsOnce, Then, goes_on, stops, then_once}
 
@@ -39,11 +41,28 @@ abbrev Reads : TuneText → Defaults → Result Header Fault → Type 0
 Reads tune defaults (Ok header) = HasHeader tune defaults header
 Reads tune defaults (Err fault) = header_fault tune ≡ Some fault
 
+header_result : (tune : TuneText) (defaults : Defaults) (r : Result Header Fault)
+    → Reads tune defaults r → IsHeaderResult tune defaults r
+header_result tune defaults (Ok h) a = (a.value, a.clear)
+header_result tune defaults (Err f) a = a
+
 reads_once : (tune : TuneText) (defaults : Defaults) → IsOnce Header (Reads tune defaults)
-reads_once tune defaults (Ok h) (Ok k) a b = ap Ok (one_header tune defaults h k a.value b.value)
-reads_once tune defaults (Ok h) (Err g) a b = let clash = sym a.clear ∙ b in cc
-reads_once tune defaults (Err f) (Ok k) a b = let clash = sym b.clear ∙ a in cc
-reads_once tune defaults (Err f) (Err g) a b = let same = sym a ∙ b in cc
+reads_once tune defaults r q a b =
+    one_header tune defaults r (header_result tune defaults r a) q (header_result tune defaults q b)
+
+-- ---- the written score, or the fault of the body or of its score
+abbrev Writes : TuneText → Bool → Header → Result Score Fault → Type 0
+Writes tune flow header (Ok score) = IsScoreOf header tune flow score × IsGoodScore score
+Writes tune flow header (Err fault) = IsFaultOf header tune (TuneError.Fault fault)
+
+score_result : (tune : TuneText) (flow : Bool) (header : Header) (r : Result Score Fault)
+    → Writes tune flow header r → IsScoreResult header tune flow r
+score_result tune flow header (Ok s) a = a.0
+score_result tune flow header (Err f) a = a
+
+writes_once : (tune : TuneText) (flow : Bool) (header : Header) → IsOnce Score (Writes tune flow header)
+writes_once tune flow header r q a b =
+    one_score header tune flow r (score_result tune flow header r a) q (score_result tune flow header q b)
 
 -- ---- the drawn score, or the fault of the line of its staves
 drawn_once : (staves : Option Line) (w : Score) → IsGoodScore w → IsOnce Score (IsScoreDrawn staves w)

@@ -1,19 +1,21 @@
-use Rattle.std.proofs.Common.{◌∙◌, ◌≤◌, List, length, ap, drop, subst, sym}
-use Rattle.abc_steps.specs.declared.step.BodyItem.{BodyItem}
-use Rattle.abc_items.specs.Voices.{voice_ids}
-use Rattle.abc_score.proofs.{Ids.few_ids, Lines.words_rise_after}
+use Rattle.std.proofs.Common.{Ok}
+use Rattle.std.proofs.lemmas.Result.{IfOk-weaker, IfErr-weaker}
+use Rattle.abc_lines.specs.Results.{IsOnlyFault, IsOnlyResult}
+use Rattle.abc_score.specs.Build.{IsScoreResult}
+use Rattle.abc_score.proofs.OneScore.{one_score, only_fault}
 use Rattle.abc_score.proofs.building.build.Goals as goal
 
-pub score_in-requires-clause-rise : goal.score_in-requires-clause-rise
-score_in-requires-clause-rise c =
-    let k = c.args.header.now.body in
-    words_rise_after c.args.tune.now.lines k c.requires.tune.rise
-    (c.split_at.ensures.back ∙ ap (drop k) c.as_slice.ensures) c.in-Ok.ensures.items
-    c.as_slice-in-Ok.ensures
+pub returns-clause-only : goal.returns-clause-only
+returns-clause-only c =
+    let header = c.args.header.now in
+    let tune = c.args.tune.now in
+    IfOk-weaker c.tune_score.result _ (λ score. IsOnlyResult (IsScoreResult header tune c.args.flow) (Ok score))
+    (λ score is. one_score header tune c.args.flow (Ok score) is)
+    c.tune_score.ensures.score
 
-pub score_in-requires-clause-few : goal.score_in-requires-clause-few
-score_in-requires-clause-few c =
-    let few =
-    few_ids c.args.header.now c.split_at.result.1.now c.in-Ok.items c.requires.header.0 c.in-Ok.ensures.items in
-    subst (λ (items : List BodyItem). length (voice_ids c.args.header.now items) ≤ 16) (sym c.as_slice-in-Ok.ensures)
-    few
+pub returns-clause-only_fault : goal.returns-clause-only_fault
+returns-clause-only_fault c =
+    let header = c.args.header.now in
+    let tune = c.args.tune.now in
+    IfErr-weaker c.tune_score.result _ (IsOnlyFault (IsScoreResult header tune c.args.flow))
+    (only_fault header tune c.args.flow) c.tune_score.ensures.fault

@@ -1,18 +1,19 @@
--- The lines of a body give one list of items and faults.
+-- The lines of a body give one list of items and faults, so a body has one result: its items, or its first fault.
 use Rattle.std.proofs.Common.{◌≡◌, ◌∙◌, refl, sym, ap, subst, ℕ, ◌+◌, ◌≤◌, List, ◌++◌, length, take, drop, Some, arith}
-use Rattle.std.proofs.Common.{append_assoc, ⊎_elim}
+use Rattle.std.proofs.Common.{append_assoc, ⊎_elim, Result, Ok, Err}
 use Rattle.std.proofs.lemmas.Bool.{cases_lt}
 use Rattle.std.proofs.lemmas.List.{take-append-drop, take-take, take_all}
 use Rattle.abc_lines.specs.declared.book.Line.{Line}
 use Rattle.abc_lines.specs.declared.fault.Fault.{Fault}
 use Rattle.abc_lines.specs.declared.kind.LineKind.{LineKind}
 use Rattle.abc_lines.specs.Kinds.{kind_of}
+use Rattle.abc_lines.specs.Results.{IsOnlyResult}
 use Rattle.abc_steps.specs.declared.step.BodyItem.{BodyItem}
 use Rattle.abc_field.specs.declared.directive.Breaks.{Breaks}
 use Rattle.abc_fields.specs.declared.header.Header.{Header}
 use Rattle.abc_music.proofs.OnePrefix.{one_prefix_of}
 use Rattle.abc_items.specs.Body.{ItemOrFault, KindGives, BodyGives, no_lines, one_line, judged_items, first_item_fault}
-use Rattle.abc_items.specs.Body.{items_in, IsBody, HasFault}
+use Rattle.abc_items.specs.Body.{items_in, IsBody, HasFault, IsBodyResult}
 use Rattle.abc_items.specs.Voices.{declared_ids}
 use Rattle.abc_items.proofs.Laws.{stays}
 
@@ -81,3 +82,10 @@ pub one_body_fault : (header : Header) (lines : List Line) (f g : Fault)
 one_body_fault header lines f g a b =
     ⊎_elim (λ less. fault_along header lines f g a b (omega (arith, less)))
     (λ less. sym (fault_along header lines g f b a less)) (cases_lt a.count b.count)
+
+pub one_body : (header : Header) (lines : List Line) (result : Result (List BodyItem) Fault)
+    → IsBodyResult header lines result → IsOnlyResult (IsBodyResult header lines) result
+one_body header lines (Ok xs) a (Ok ys) b = ap Ok (one_items header lines xs ys a b)
+one_body header lines (Ok xs) a (Err g) b = absurd (no_body_fault header lines xs g a b)
+one_body header lines (Err f) a (Ok ys) b = absurd (no_body_fault header lines ys f b a)
+one_body header lines (Err f) a (Err g) b = ap Err (one_body_fault header lines f g a b)
