@@ -38,7 +38,7 @@ by_test P true x y h k = h
 by_test P false x y h k = k
 
 -- what one more leading digit keeps holds for a number
-digits_keep : (P : List ℕ → Type 0)
+pub digits_keep : (P : List ℕ → Type 0)
     → ((d : ℕ) (ds : List ℕ) → IsDigit d → P ds → P (d ∷ ds)) → (k n : ℕ) (ds : List ℕ) → P ds
     → P (digits_onto k 10 false n ds)
 digits_keep P more zero n ds h = h

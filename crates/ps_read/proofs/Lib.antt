@@ -5,3 +5,4 @@ pub mod Walked
 pub mod Stepping
 pub mod Forms
 pub mod Ending
+pub mod Alone

@@ -10,6 +10,7 @@ use Rattle.ps_read.specs.ReaderStates.{MayCome, state_after, Leads}
 use Rattle.ps_read.specs.Answers.{IsGoodThroughout, IsFirstFault, IsDocumentRead}
 use Rattle.ps_read.specs.Steps.{Any, NoneOf, IsNextOf}
 use Rattle.ps_read.specs.declared.state.ReaderState.{ReaderState}
+use Rattle.ps_read.proofs.Alone.{one_sheet}
 use Rattle.ps_read.proofs.Heads.{may_lack, no_line}
 use Rattle.ps_read.proofs.Telling.{lines_spell}
 use Rattle.ps_read.proofs.Through.{document_way, lines_both, leads_both}
@@ -133,21 +134,5 @@ first_fault text p rest number h stuck = (
 pub read_all : (text : List ℕ) (s : Sheet) (rest : List ℕ) (number : ℕ)
     → IsReading text (ReaderState.Ended s) rest number → rest ≡ [] → IsDocumentRead text s
 read_all text s rest number h e =
-    record {
-      spells = lines_spell s text (h.lines, h.so_far ∙ ap (λ r. lines_then h.lines r) e, h.leads);
-      only =
-          λ t g.
-          let w = document_way t text g in
-          let n = as_many ReaderState.Begun (ReaderState.Ended s) ReaderState.Begun (ReaderState.Ended t) h.lines w.0
-          rest h.leads w.2 (sym h.so_far ∙ w.1) in
-          let v = h.ways w.0 [] (ReaderState.Ended t) w.1 w.2 n in last t v.0 v.1 v.2;
-    }
-  where
-    sheet_of : ReaderState → Sheet
-    sheet_of (ReaderState.Ended t) = t
-    sheet_of p = s
-
-    last : (t : Sheet) (ks : List Line)
-        → rest ≡ lines_then ks [] → Leads (ReaderState.Ended s) ks (ReaderState.Ended t) → t ≡ s
-    last t [] f l = sym (ap sheet_of l)
-    last t (k ∷ ks) f l = absurd l.0
+    let spells = lines_spell s text (h.lines, h.so_far ∙ ap (λ r. lines_then h.lines r) e, h.leads) in
+    record { spells = spells; only = λ t other. one_sheet text s t spells other }

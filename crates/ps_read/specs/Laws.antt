@@ -9,3 +9,7 @@ GoodByLines = (text : List ℕ) (s : Sheet) → SpellsSheet s text ↔ IsGoodThr
 -- no proper continuation of a document is a document
 abbrev pub NoPrefix : Type 0
 NoPrefix = (text more : List ℕ) (s t : Sheet) → SpellsSheet s text → SpellsSheet t (text ++ more) → more ≡ []
+
+-- one sheet alone spells a text
+abbrev pub OneSheet : Type 0
+OneSheet = (text : List ℕ) (s t : Sheet) → SpellsSheet s text → SpellsSheet t text → t ≡ s

@@ -12,4 +12,4 @@ mod state;
 mod systems;
 
 pub use ps_heard::{Heard, hear, put_heads, put_heard};
-pub use reading::{PagesError, good_by_lines, no_prefix_is_a_document, read_document};
+pub use reading::{PagesError, good_by_lines, no_prefix_is_a_document, one_sheet, read_document};

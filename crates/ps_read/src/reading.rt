@@ -1,6 +1,6 @@
 ghost use Rattle.std.specs.Prelude.{IfOk, IfErr, MatchOption, ◌≡◌};
 ghost use Rattle.ps_read.specs.Answers.{IsDocumentRead, IsCause};
-ghost use Rattle.ps_read.specs.Laws.{GoodByLines, NoPrefix};
+ghost use Rattle.ps_read.specs.Laws.{GoodByLines, NoPrefix, OneSheet};
 ghost use Rattle.ps_read.specs.Steps.{IsStep};
 ghost use Rattle.eng_lines.specs.Lines.{Lacks};
 ghost use Rattle.ps_read.specs.declared.state.ReaderState.TheVariants as at;
@@ -105,4 +105,9 @@ pub fn good_by_lines()
 /// The law that no proper prefix of a document is a document.
 pub fn no_prefix_is_a_document()
     ensures { NoPrefix }
+{}
+
+/// The law that one sheet alone spells a text.
+pub fn one_sheet()
+    ensures { OneSheet }
 {}
