@@ -1,6 +1,7 @@
 -- Blocks split into pages that fit: each is on its page, each comes after the one before it, and one split is chosen.
 use Rattle.std.proofs.Common.{◌≡◌, refl, ap, sym, ◌∙◌, subst, ℕ, zero, suc, ◌+◌, ◌-◌, ◌≤◌, ℤ, pos, negsuc, ◌≤ℤ◌, Bool}
-use Rattle.std.proofs.Common.{true, false, not, List, [], ◌∷◌, ◌++◌, append_assoc, length, take, drop, arith}
+use Rattle.std.proofs.Common.{true, false, not, List, [], ◌∷◌, ◌++◌, append_assoc, length, map, take, drop, arith}
+use Rattle.std.proofs.Common.{◌<◌}
 use Rattle.std.proofs.lemmas.Bool.Decides.{nat_tests}
 use Rattle.std.proofs.lemmas.Int.{ints}
 use Rattle.std.proofs.lemmas.List.{drop-drop, drop_all}
@@ -9,16 +10,17 @@ use Rattle.std.proofs.Math.Seq.{drop-nil}
 use Rattle.std.specs.Prelude.{◌==◌, ◌&&◌, nat_le, if◌then◌else◌, IfOk, IsSome, Some, None, Result, Ok, Err}
 use Rattle.lay_breaks.specs.Breaking.{FitsFrom, IsChosen, NoneLegal, RisesFrom, last_from}
 use Rattle.lay_breaks.proofs.Unique.{one_is_chosen}
-use Rattle.lay_pages.specs.Even.{AreFitting, AreHeights, AreSpots, StandByPages, ComesAfter, ComeAfter}
-use Rattle.lay_pages.specs.Even.{ends_after, ends_page, groups_after, filled, parted, group_heights, heights_from}
-use Rattle.lay_pages.specs.Even.{page_cost, page_height, parted_from, parted_spots, even_spot_after, span_height}
-use Rattle.lay_pages.specs.Even.{stacked, turns}
+use Rattle.lay_pages.specs.Even.{AreEven, AreHeights, AreSpots, StandByPages, ComesAfter, ComeAfter, filled, parted}
+use Rattle.lay_pages.specs.Even.{group_heights, group_numbers, groups_after, heights_from, page_cost, page_height}
+use Rattle.lay_pages.specs.Even.{page_of, pages_of, span_height, square, stacked}
+use Rattle.lay_pages.specs.Parting.{AreFitting, ends_after, ends_page, even_spot_after, parted_from, parted_spots}
+use Rattle.lay_pages.specs.Parting.{turns}
 use Rattle.lay_pages.specs.declared.filling.Block.{Block}
 use Rattle.lay_pages.specs.declared.filling.BlockSpot.{BlockSpot}
 use Rattle.lay_pages.specs.declared.filling.Spot.{Spot}
 use Rattle.lay_pages.specs.declared.filling.PageError.{PageError}
 use Rattle.lay_pages.specs.Filling.{AreGoodBlocks, AreFilled, AreWithin, FollowOn, Follows, same_page, next_page}
-use Rattle.lay_pages.specs.Filling.{group_height, height_number, spot_at, with_kept}
+use Rattle.lay_pages.specs.Filling.{group_height, height_number, spot_at, top_under, with_kept}
 use Rattle.lay_pages.proofs.Filled.{at_top, below}
 use Rattle.lay_pages.proofs.Fitting.{bottom_within, first_low, top_within}
 use Rattle.lay_pages.specs.Even as even
@@ -321,13 +323,176 @@ chosen_fits high blocks heights groups breaks is count chosen =
     subst (AreFitting high 0 0 breaks) is
     (fitting high heights 0 breaks chosen.legal.rises (chosen.legal.ends ∙ count) chosen.legal.fits)
 
+pub chosen_of : (high : ℕ) (blocks : List Block) (heights : List ℤ) (groups : ℕ) (breaks : List ℕ)
+    → heights ≡ group_heights blocks → groups ≡ length heights
+    → IsChosen (page_cost high heights) (λ b. false) groups breaks
+    → IsChosen (page_cost high (group_heights blocks)) (λ b. false) (length (group_heights blocks)) breaks
+chosen_of high blocks heights groups breaks is count chosen =
+    subst (λ hs. IsChosen (page_cost high hs) (λ b. false) (length hs) breaks) is
+    (subst (λ n. IsChosen (page_cost high heights) (λ b. false) n breaks) count chosen)
+
+-- ---- each block is on the page of its group
+none_ended : (group : ℕ) (ends : List ℕ) → RisesFrom group ends → page_of ends group ≡ 0
+none_ended group [] rises = refl
+none_ended group (e ∷ ends) rises =
+    let l = rises.0 in
+    let past : nat_le e group ≡ false = grind (arith, nat_tests, l) in
+    rw past (none_ended group ends (rises_lower group e ends l rises.1))
+  where
+    rises_lower : (a b : ℕ) (bs : List ℕ) → a < b → RisesFrom b bs → RisesFrom a bs
+    rises_lower a b [] l rises = tt
+    rises_lower a b (c ∷ bs) l rises = let m = rises.0 in (omega (arith, l, m), rises.1)
+
+-- the pages so far, and those that are left
+abbrev Counts : List ℕ → ℕ → ℕ → List ℕ → Type 0
+Counts breaks page group ends = (g : ℕ) → group ≤ g → page_of breaks g ≡ page + page_of ends g
+
+count_one : (e group : ℕ) (ends : List ℕ) → nat_le e group ≡ true → page_of (e ∷ ends) group ≡ suc (page_of ends group)
+count_one e group ends is = rw is refl
+
+step_rises : (group : ℕ) (ends : List ℕ) (block : Block)
+    → RisesFrom group ends → RisesFrom (groups_after group block) (ends_after (turns ends group block) ends)
+step_rises group [] block rises = by block.keep
+  where
+    by : (keep : Bool) → RisesFrom (if keep then group else group + 1) (ends_after (not keep && false) [])
+    by true = tt
+    by false = tt
+step_rises group (e ∷ ends) block rises = by block.keep (e == group + 1) refl
+  where
+    by : (keep turn : Bool) → (e == group + 1) ≡ turn
+        → RisesFrom (if keep then group else group + 1) (ends_after (not keep && turn) (e ∷ ends))
+    by true turn t = rises
+    by false false t = (let l = rises.0 in grind (arith, nat_tests, l, t), rises.1)
+    by false true t = let is : e ≡ group + 1 = grind (arith, nat_tests, t) in subst (λ k. RisesFrom k ends) is rises.1
+
+step_counts : (group : ℕ) (ends breaks : List ℕ) (place : BlockSpot) (block : Block)
+    → Counts breaks place.page group ends
+    → Counts breaks (even_spot_after (turns ends group block) place block).page (groups_after group block)
+    (ends_after (turns ends group block) ends)
+step_counts group [] breaks place block counts = by block.keep
+  where
+    by : (keep : Bool)
+        → Counts breaks (even_spot_after (not keep && false) place block).page (if keep then group else group + 1)
+        (ends_after (not keep && false) [])
+    by true = counts
+    by false = λ g l. counts g (omega (arith, l))
+step_counts group (e ∷ ends) breaks place block counts = by block.keep (e == group + 1) refl
+  where
+    by : (keep turn : Bool) → (e == group + 1) ≡ turn
+        → Counts breaks (even_spot_after (not keep && turn) place block).page (if keep then group else group + 1)
+        (ends_after (not keep && turn) (e ∷ ends))
+    by true turn t = counts
+    by false false t = λ g l. counts g (omega (arith, l))
+    by false true t = λ g l.
+        let one = count_one e g ends (grind (arith, nat_tests, t, l)) in
+        let all = counts g (omega (arith, l)) in
+        omega (arith, one, all)
+
+pub parted_pages : (high group : ℕ) (ends breaks : List ℕ) (place : BlockSpot) (blocks : List Block)
+    → RisesFrom group ends → Counts breaks place.page group ends
+    → pages_of (parted_from high ends group place blocks) ≡ map (page_of breaks) (group_numbers group blocks)
+parted_pages high group ends breaks place [] rises counts = refl
+parted_pages high group ends breaks place (block ∷ more) rises counts =
+    let here = counts group (omega arith) in
+    let none = none_ended group ends rises in
+    let page : place.page ≡ page_of breaks group = omega (arith, here, none) in
+    let next = parted_pages high (groups_after group block) (ends_after (turns ends group block) ends) breaks
+    (even_spot_after (turns ends group block) place block) more (step_rises group ends block rises)
+    (step_counts group ends breaks place block counts) in
+    ap (λ p.
+    p
+    ∷ pages_of (parted_from high (ends_after (turns ends group block) ends) (groups_after group block)
+    (even_spot_after (turns ends group block) place block) more)) page
+    ∙ ap (λ ps. page_of breaks group ∷ ps) next
+
+-- the blocks of a chosen split
+pub are_even : (high : ℕ) (blocks : List Block) (heights : List ℤ) (groups : ℕ) (breaks : List ℕ) (spots : List Spot)
+    → heights ≡ group_heights blocks → groups ≡ length heights
+    → IsChosen (page_cost high heights) (λ b. false) groups breaks → AreGoodBlocks blocks
+    → spots ≡ parted_spots high breaks blocks
+    → AreEven high blocks spots
+are_even high blocks heights groups breaks spots is count chosen good placed = record {
+  breaks = breaks;
+  chosen = chosen_of high blocks heights groups breaks is count chosen;
+  pages =
+      ap pages_of placed
+      ∙ parted_pages high 0 breaks breaks (record { page = 0; down = 0 }) blocks chosen.legal.rises
+      (λ g l. omega arith);
+  stacked = subst (StandByPages high blocks) (sym placed) (parted_stacked high breaks blocks good);
+}
+
 -- ---- one split is chosen, so blocks have one list of spots
+abbrev spot_of : ℕ → ℤ → Spot
+spot_of page top = record { page = page; top = top }
+
+same_spot : (s t : Spot) → s.page ≡ t.page → s.top ≡ t.top → s ≡ t
+same_spot s t page top = let made : spot_of s.page s.top ≡ spot_of t.page t.top = cc in made
+
+one_next : (high : ℕ) (block : Block) (s t n m : Spot)
+    → s ≡ t → n.page ≡ m.page → ComesAfter high block s n → ComesAfter high block t m → n ≡ m
+one_next high block s t n m same page (even.same_page p top) (even.same_page q other) =
+    same_spot n m page (top ∙ (ap (λ x. top_under block x) same ∙ sym other))
+one_next high block s t n m same page (even.next_page l p top) (even.next_page k q other) =
+    same_spot n m page (top ∙ sym other)
+one_next high block s t n m same page (even.same_page p top) (even.next_page k q other) =
+    let pages = ap (λ (x : Spot). x.page) same in absurd (omega (arith, p, q, page, pages))
+one_next high block s t n m same page (even.next_page l p top) (even.same_page q other) =
+    let pages = ap (λ (x : Spot). x.page) same in absurd (omega (arith, p, q, page, pages))
+
+abbrev first_page : List ℕ → ℕ
+first_page [] = 0
+first_page (p ∷ ps) = p
+
+abbrev later_pages : List ℕ → List ℕ
+later_pages [] = []
+later_pages (p ∷ ps) = ps
+
+same_after : (high : ℕ) (blocks : List Block) (s t : Spot) (spots others : List Spot)
+    → s ≡ t → pages_of spots ≡ pages_of others → length spots + 1 ≤ length blocks → ComeAfter high blocks (s ∷ spots)
+    → ComeAfter high blocks (t ∷ others)
+    → s ∷ spots ≡ t ∷ others
+same_after high [] s t spots others same pages few a b = absurd (omega (arith, few))
+same_after high (block ∷ blocks) s t [] [] same pages few a b = ap (λ x. x ∷ []) same
+same_after high (block ∷ blocks) s t [] (m ∷ others) same pages few a b = absurd cc
+same_after high (block ∷ blocks) s t (n ∷ spots) [] same pages few a b = absurd cc
+same_after high (block ∷ blocks) s t (n ∷ spots) (m ∷ others) same pages few a b =
+    let next = one_next high block s t n m same (ap first_page pages) a.0 b.0 in
+    let more = same_after high blocks n m spots others next (ap later_pages pages) (omega (arith, few)) a.1 b.1 in
+    ap (λ x. x ∷ n ∷ spots) same ∙ ap (λ xs. t ∷ xs) more
+
+same_spots : (high : ℕ) (blocks : List Block) (spots others : List Spot)
+    → pages_of spots ≡ pages_of others → length spots ≡ length blocks → StandByPages high blocks spots
+    → StandByPages high blocks others
+    → spots ≡ others
+same_spots high blocks [] [] pages count a b = refl
+same_spots high blocks [] (t ∷ others) pages count a b = absurd cc
+same_spots high blocks (s ∷ spots) [] pages count a b = absurd cc
+same_spots high blocks (s ∷ spots) (t ∷ others) pages count a b =
+    same_after high blocks s t spots others (same_spot s t (ap first_page pages) (a.0.1 ∙ sym b.0.1))
+    (ap later_pages pages) (omega (arith, count)) a.1 b.1
+
+numbers_count : (group : ℕ) (blocks : List Block) → length (group_numbers group blocks) ≡ length blocks
+numbers_count group [] = refl
+numbers_count group (block ∷ more) = ap suc (numbers_count (groups_after group block) more)
+
+map_count : {A : Type 0} (f : A → ℕ) (xs : List A) → length (map f xs) ≡ length xs
+map_count f [] = refl
+map_count f (x ∷ xs) = ap suc (map_count f xs)
+
+even_count : (high : ℕ) (blocks : List Block) (spots : List Spot)
+    → (is : AreEven high blocks spots) → length spots ≡ length blocks
+even_count high blocks spots is =
+    sym (map_count (λ (s : Spot). s.page) spots)
+    ∙ (ap length is.pages
+    ∙ (map_count (page_of is.breaks) (group_numbers 0 blocks) ∙ numbers_count 0 blocks))
+
 pub one_spots : (even : Bool) (high : ℕ) (blocks : List Block) (spots others : List Spot)
     → AreSpots even high blocks spots → AreSpots even high blocks others → spots ≡ others
 one_spots even high blocks spots others (filled e is) (filled f other) = is ∙ sym other
 one_spots even high blocks spots others (filled e is) (parted f few other) = absurd (grind (arith, nat_tests))
 one_spots even high blocks spots others (parted e few is) (filled f other) = absurd (grind (arith, nat_tests))
 one_spots even high blocks spots others (parted e few is) (parted f more other) =
-    is.value
-    ∙ ap (λ breaks. parted_spots high breaks blocks) (one_is_chosen _ _ _ is.breaks other.breaks is.chosen other.chosen)
-    ∙ sym other.value
+    let breaks = one_is_chosen _ _ _ is.breaks other.breaks is.chosen other.chosen in
+    same_spots high blocks spots others
+    (is.pages ∙ (ap (λ bs. map (page_of bs) (group_numbers 0 blocks)) breaks ∙ sym other.pages))
+    (even_count high blocks spots is) is.stacked other.stacked

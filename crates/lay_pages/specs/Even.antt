@@ -1,15 +1,15 @@
 -- Blocks on evenly filled pages: the groups of the blocks are split into pages at the least total cost of the pages.
 -- A split is a breaking of the groups: the numbers of groups up to the end of each page.
 use Rattle.std.specs.Prelude.{◌≡◌, ◌<◌, ◌≤◌, ⊤, ℕ, zero, suc, ◌+◌, ◌-◌, ◌*◌, ◌/◌, ◌^◌, ◌==◌, nat_le, ℤ, pos, ◌≤ℤ◌, Bool}
-use Rattle.std.specs.Prelude.{true, false, not, ◌&&◌, if◌then◌else◌, List, [], ◌∷◌, length, take, drop, Option, Some}
+use Rattle.std.specs.Prelude.{true, false, ◌&&◌, if◌then◌else◌, List, [], ◌∷◌, length, map, take, drop, Option, Some}
 use Rattle.std.specs.Prelude.{None, IfSome, All, refl}
+use Rattle.std.specs.List.{filter}
 use Rattle.std.proofs.Common.{arith, ap}
 use Rattle.std.proofs.lemmas.Bool.Decides.{nat_tests}
 use Rattle.lay_breaks.specs.Breaking.{IsChosen}
 use Rattle.lay_pages.specs.declared.filling.Block.{Block}
 use Rattle.lay_pages.specs.declared.filling.Spot.{Spot}
-use Rattle.lay_pages.specs.declared.filling.BlockSpot.{BlockSpot}
-use Rattle.lay_pages.specs.Filling.{BeginOn, group_height, height_number, place_by, spot_at, spots_of, top_under, under}
+use Rattle.lay_pages.specs.Filling.{BeginOn, group_height, height_number, spots_of, top_under}
 
 -- the heights of the groups, in order; `tied` says that a block before is tied to the first here
 abbrev pub heights_from : Bool → List Block → List ℤ
@@ -46,61 +46,22 @@ page_cost high heights a b =
 abbrev pub AreHeights : ℕ → List ℤ → Type 0
 AreHeights high heights = All (λ h. (pos 0 ≤ℤ h) × (h ≤ℤ pos high)) heights
 
--- Pages end after the listed numbers of groups. The block after another is under it or, if a page ends with that
--- block's group, at the top of the next page. `group` is the number of groups that end before the block's own.
-abbrev pub ends_page : List ℕ → ℕ → Bool
-ends_page [] group = false
-ends_page (e ∷ ends) group = e == group + 1
-
-abbrev pub turns : List ℕ → ℕ → Block → Bool
-turns ends group block = not block.keep && ends_page ends group
-
-abbrev pub ends_after : Bool → List ℕ → List ℕ
-ends_after true [] = []
-ends_after true (e ∷ ends) = ends
-ends_after false ends = ends
-
-abbrev pub even_spot_after : Bool → BlockSpot → Block → BlockSpot
-even_spot_after turned place block = place_by (not turned) place.page (under place block)
-
+-- the number of the group of each block, the first of which has this one; a group ends with a block that isn't tied to
+-- the next
 abbrev pub groups_after : ℕ → Block → ℕ
 groups_after group block = if block.keep then group else group + 1
 
--- the spots of blocks, the first of which has this spot
-abbrev pub parted_from : ℕ → List ℕ → ℕ → BlockSpot → List Block → List Spot
-parted_from high ends group place [] = []
-parted_from high ends group place (block ∷ more) =
-    spot_at high place
-    ∷ parted_from high (ends_after (turns ends group block) ends) (groups_after group block)
-    (even_spot_after (turns ends group block) place block) more
+abbrev pub group_numbers : ℕ → List Block → List ℕ
+group_numbers group [] = []
+group_numbers group (block ∷ more) = group ∷ group_numbers (groups_after group block) more
 
-abbrev pub parted_spots : ℕ → List ℕ → List Block → List Spot
-parted_spots high breaks blocks = parted_from high breaks 0 (record { page = 0; down = 0 }) blocks
+-- The page of a group, both counted from 0: a break says how many groups there are up to the end of a page, and the
+-- page is the number of breaks that are at most the group's number.
+abbrev pub page_of : List ℕ → ℕ → ℕ
+page_of breaks group = length (filter (λ e. nat_le e group) breaks)
 
--- Groups, after `group` others, go on pages with these ends; each page fits, the first from `down` on.
-abbrev pub AreFitting : ℕ → ℕ → ℕ → List ℕ → List ℤ → Type 0
-AreFitting high down group [] heights = heights ≡ []
-AreFitting high down group (e ∷ ends) heights =
-    (n : ℕ)
-    × (e ≡ group + suc n)
-    × (down + stacked (take (suc n) heights) ≤ high + 1500)
-    × AreFitting high 0 e ends (drop (suc n) heights)
-
--- The blocks are placed by the chosen split: no other split of the groups into pages that fit costs less.
-pub record AreEven (high : ℕ) (blocks : List Block) (spots : List Spot) : Type 0 where
-  pub breaks : List ℕ
-  pub chosen : IsChosen (page_cost high (group_heights blocks)) (λ b. false) (length (group_heights blocks)) breaks
-  pub value : spots ≡ parted_spots high breaks blocks
-
--- The spots of blocks: filled one under another, or split evenly, unless there are more than 8,388,608 groups.
-abbrev pub most_groups : ℕ
-most_groups = 8388608
-
-pub data AreSpots (even : Bool) (high : ℕ) (blocks : List Block) (spots : List Spot) : Type 0 where
-  filled : (even && nat_le (length (group_heights blocks)) most_groups) ≡ false
-      → spots ≡ spots_of high blocks → AreSpots even high blocks spots
-  parted : even ≡ true
-      → length (group_heights blocks) ≤ most_groups → AreEven high blocks spots → AreSpots even high blocks spots
+abbrev pub pages_of : List Spot → List ℕ
+pages_of spots = map (λ (s : Spot). s.page) spots
 
 -- The block after another is 1500 under it on the same page, or at the top of the next page; two blocks of a group
 -- are never separated.
@@ -115,6 +76,24 @@ ComeAfter high _ _ = ⊤
 
 abbrev pub StandByPages : ℕ → List Block → List Spot → Type 0
 StandByPages high blocks spots = BeginOn high spots × ComeAfter high blocks spots
+
+-- The blocks are placed by the chosen split: no other split of the groups into pages that fit costs less. Each block is
+-- on the page of its group, under the one before it or at the top of the page.
+pub record AreEven (high : ℕ) (blocks : List Block) (spots : List Spot) : Type 0 where
+  pub breaks : List ℕ
+  pub chosen : IsChosen (page_cost high (group_heights blocks)) (λ b. false) (length (group_heights blocks)) breaks
+  pub pages : pages_of spots ≡ map (page_of breaks) (group_numbers 0 blocks)
+  pub stacked : StandByPages high blocks spots
+
+-- The spots of blocks: filled one under another, or split evenly, unless there are more than 8,388,608 groups.
+abbrev pub most_groups : ℕ
+most_groups = 8388608
+
+pub data AreSpots (even : Bool) (high : ℕ) (blocks : List Block) (spots : List Spot) : Type 0 where
+  filled : (even && nat_le (length (group_heights blocks)) most_groups) ≡ false
+      → spots ≡ spots_of high blocks → AreSpots even high blocks spots
+  parted : even ≡ true
+      → length (group_heights blocks) ≤ most_groups → AreEven high blocks spots → AreSpots even high blocks spots
 
 -- Consequences of the form: the two laws of costs.
 stacked_more : (n m : ℕ) (hs : List ℤ) → n ≤ m → stacked (take n hs) ≤ stacked (take m hs)

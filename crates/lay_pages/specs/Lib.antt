@@ -1,4 +1,5 @@
 pub mod Filling
 pub mod Even
+pub mod Parting
 pub mod Stacking
 pub mod Titles

@@ -1,10 +1,10 @@
 ghost use Rattle.std.specs.Prelude.{◌≡◌, ◌<◌, ◌≤◌, ◌-◌, ◌^◌, pos, ◌≤ℤ◌, false, refl, true, All, length, IfOk, IfErr};
 ghost use Rattle.std.specs.Prelude.{None};
 ghost use Rattle.lay_breaks.specs.Breaking.{IsChosen};
-ghost use Rattle.lay_pages.specs.Even.{AreFitting, AreHeights, AreSpots, StandByPages, ends_after, group_heights};
-ghost use Rattle.lay_pages.specs.Even.{groups_after, cost_small, cost_stops, page_cost, page_height, parted_spots};
-ghost use Rattle.lay_pages.specs.Even.{even_spot_after, turns};
+ghost use Rattle.lay_pages.specs.Even.{AreHeights, AreSpots, StandByPages, cost_small, cost_stops, group_heights};
+ghost use Rattle.lay_pages.specs.Even.{groups_after, page_cost, page_height};
 ghost use Rattle.lay_pages.specs.Filling.{AreGoodBlocks, AreWithin, IsPageError, first_tall};
+ghost use Rattle.lay_pages.specs.Parting.{AreFitting, ends_after, even_spot_after, parted_spots, turns};
 
 use crate::filling::{
     Block, BlockSpot, PageError, Spot, fill, first_tall, group_height, height_number, spot_at,

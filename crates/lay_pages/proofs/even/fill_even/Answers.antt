@@ -1,7 +1,8 @@
-use Rattle.std.proofs.Common.{subst, sym}
-use Rattle.lay_pages.specs.Even.{AreFitting, StandByPages, group_heights}
+use Rattle.std.proofs.Common.{◌∙◌, ◌≤◌, ap, length, refl, rules, subst, sym}
+use Rattle.lay_pages.specs.Even.{StandByPages, group_heights, most_groups, parted}
 use Rattle.lay_pages.specs.Filling.{AreWithin}
-use Rattle.lay_pages.proofs.Pages.{chosen_fits, filled_if, parted_stacked, parted_within}
+use Rattle.lay_pages.specs.Parting.{AreFitting, parted_spots}
+use Rattle.lay_pages.proofs.Pages.{are_even, chosen_fits, filled_if, parted_stacked, parted_within}
 use Rattle.lay_pages.proofs.even.fill_even.Goals as goal
 
 pub returns-then-groups-gt-MOST_GROUPS-clause-stacked : goal.returns-then-groups-gt-MOST_GROUPS-clause-stacked
@@ -26,3 +27,13 @@ pub returns-clause-stacked : goal.returns-clause-stacked
 returns-clause-stacked c =
     subst (StandByPages c.args.high c.args.blocks.now) (sym c.in_ok-spots.ensures)
     (parted_stacked c.args.high c.as_slice.result.now c.args.blocks.now c.requires.good)
+
+pub returns-clause-spots : goal.returns-clause-spots
+returns-clause-spots c =
+    let few : c.len-groups.result ≤ 8388608 = search rules in
+    parted refl
+    (subst (λ hs. length hs ≤ most_groups) c.in_ok-heights.ensures.value
+    (subst (λ n. n ≤ most_groups) c.len-groups.ensures few))
+    (are_even c.args.high c.args.blocks.now c.in_ok-heights.heights c.len-groups.result c.in_ok-breaks.breaks
+    c.in_ok-spots.spots c.in_ok-heights.ensures.value c.len-groups.ensures c.in_ok-breaks.ensures c.requires.good
+    (c.in_ok-spots.ensures ∙ ap (λ breaks. parted_spots c.args.high breaks c.args.blocks.now) c.as_slice.ensures))

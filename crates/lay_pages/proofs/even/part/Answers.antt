@@ -1,5 +1,5 @@
 use Rattle.std.proofs.Common.{◌≡◌, ◌∷◌, ◌∙◌, ap, length, arith, rules}
-use Rattle.lay_pages.specs.Even.{ends_after, even_spot_after, turns}
+use Rattle.lay_pages.specs.Parting.{ends_after, even_spot_after, turns}
 use Rattle.lay_pages.proofs.Pages.{fits_more, groups_next, page_next, parted_more}
 use Rattle.lay_pages.proofs.even.part.Goals as goal
 

@@ -1,5 +1,6 @@
 use Rattle.std.proofs.Common.{◌≡◌, ◌<◌, ◌+◌, ◌^◌, ◌++◌, length}
-use Rattle.lay_pages.specs.Even.{AreFitting, group_heights, parted_from, parted_spots}
+use Rattle.lay_pages.specs.Even.{group_heights}
+use Rattle.lay_pages.specs.Parting.{AreFitting, parted_from, parted_spots}
 use Rattle.lay_pages.specs.Filling.{AreGoodBlocks}
 use Rattle.lay_pages.proofs.even.part.Given as goal
 
