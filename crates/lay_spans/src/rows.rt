@@ -6,9 +6,9 @@ ghost use Rattle.lay_spans.specs.Rows.{IsRowFrom, row_spans, rows_spans};
 ghost use Rattle.lay_spans.specs.SpanList.{FitsAt, FitsAtForce};
 
 use crate::borrowed::BorrowedColumns;
-use crate::forces::badness;
 use crate::seen::BorrowedColumn;
 use lay_breaks::Span;
+use lay_rows::badness;
 use lay_springs::{Progress, Spaced, Spring, fit_within, most_columns};
 use mus_units::{Memory, Row};
 use std::alloc::Global;
@@ -85,7 +85,7 @@ pub(crate) fn see<'a, C: Spaced + Spring>(
     Ok(())
 }
 
-/// Returns the costs of the spans from bar `a`, from the shortest to the longest that fits. It adds
+/// Returns the forces of the spans from bar `a`, from the shortest to the longest that fits. It adds
 /// the columns of one measure at a time, and stops at the first span that doesn't fit or after a
 /// forced bar. Each search for a force resumes from the columns as the search before left them, and
 /// takes no memory.
@@ -97,7 +97,7 @@ pub(crate) fn row_from<'a, C: Spaced + Spring>(
     width: u32,
     marks: &[bool],
     a: usize,
-) -> Result<Row<u64>, Memory>
+) -> Result<Row<u16>, Memory>
     requires measures { AreMeasures C.reach_of (length gaps.now) starts.now others.now }
     requires lanes { length gaps.now < 2 ^ 32 }
     requires narrow { (lane : ℕ) → lane < length gaps.now → slice_index gaps.now lane ≤ 2 ^ 20 }
@@ -120,7 +120,7 @@ pub(crate) fn row_from<'a, C: Spaced + Spring>(
         let Some(force) = greatest_force(columns, gaps, width, most, &mut at, front, placed) else {
             return Ok(row);
         };
-        row.push(badness(force, m + 1 == starts.len()))?;
+        row.push(force)?;
         if marks[m + 1] {
             return Ok(row);
         }
@@ -129,32 +129,33 @@ pub(crate) fn row_from<'a, C: Spaced + Spring>(
     Ok(row)
 }
 
-/// Adds the spans of the row of bar `a`.
-fn add_row(out: &mut Row<Span>, a: u32, row: &[u64]) -> Result<(), Memory>
+/// Adds the spans of the row of bar `a`, each with the badness of its force; the last bar is `n`.
+fn add_row(out: &mut Row<Span>, n: u32, a: u32, row: &[u16]) -> Result<(), Memory>
     requires { a + length row.now < 2 ^ 32 }
-    ensures { OnOk result (out.new ≡ out.old ++ row_spans a (a + 1) row.now) }
+    ensures { OnOk result (out.new ≡ out.old ++ row_spans n a (a + 1) row.now) }
 {
     let mut b = a;
-    for cost in row {
+    for force in row {
         b += 1;
         out.push(Span {
             a,
             b,
-            badness: *cost,
+            badness: badness(*force, b == n),
         })?;
     }
     Ok(())
 }
 
 /// Returns the rows as a list of spans.
-pub(crate) fn list_rows(alloc: Global, rows: &[Row<u64>]) -> Result<Row<Span>, Memory>
+pub(crate) fn list_rows(alloc: Global, rows: &[Row<u16>]) -> Result<Row<Span>, Memory>
     requires few { length rows.now ≤ 4000 }
     requires short { (a : ℕ) → a < length rows.now → length (slice_index_or rows.now a []) ≤ 4000 }
-    ensures { IfOk result (λ spans. spans ≡ rows_spans 0 rows.now) }
+    ensures { IfOk result (λ spans. spans ≡ rows_spans (length rows.now) 0 rows.now) }
 {
     let mut out = Row::new(alloc);
-    for a in 0..rows.len() {
-        add_row(&mut out, a as u32, rows[a].as_slice())?;
+    let n = rows.len() as u32;
+    for a in 0..n {
+        add_row(&mut out, n, a, rows[a as usize].as_slice())?;
     }
     Ok(out)
 }
