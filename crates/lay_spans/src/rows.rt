@@ -13,7 +13,7 @@ use lay_springs::{Progress, Spaced, Spring, fit_within, most_columns};
 use mus_units::{Memory, Row};
 use std::alloc::Global;
 
-/// The capacity for columns that is reserved at once; most tried spans have no more.
+/// The capacity for columns that is reserved at once; most spans of a breaking have no more.
 pub(crate) const MOST_OFTEN: usize = 64;
 
 /// The capacity for spans that is reserved for a row; most rows have no more.
@@ -85,10 +85,31 @@ pub(crate) fn see<'a, C: Spaced + Spring>(
     Ok(())
 }
 
+/// Returns how many columns the searches from bar `a` are given at most: those of the measures up to
+/// the first with which they are too many to be within the width.
+fn room_from<'a, C>(
+    starts: &'a [Row<C>],
+    others: &'a [BorrowedColumns<'a, C>],
+    width: u32,
+    a: usize,
+) -> usize
+    requires same { length others.now ≡ length starts.now }
+{
+    let most = most_columns(width);
+    let mut room: usize = 0;
+    for m in a..starts.len() {
+        room = room.saturating_add(measure(starts, others, a, m).len());
+        if most < room {
+            return room;
+        }
+    }
+    room
+}
+
 /// Returns the forces of the spans from bar `a`, from the shortest to the longest that fits. It adds
 /// the columns of one measure at a time, and stops at the first span that doesn't fit or after a
 /// forced bar. Each search for a force resumes from the columns as the search before left them, and
-/// takes no memory.
+/// takes no memory: its scratch is reserved before the first.
 pub(crate) fn row_from<'a, C: Spaced + Spring>(
     alloc: Global,
     starts: &'a [Row<C>],
@@ -106,11 +127,12 @@ pub(crate) fn row_from<'a, C: Spaced + Spring>(
     ensures { IfOk result (λ row. IsRowFrom C.reach_of C.length_of gaps.now width starts.now others.now
         (λ b. slice_index_or marks.now b false) a row) }
 {
-    let mut at = Vec::with_capacity(alloc, MOST_OFTEN)?;
+    let room = room_from(starts, others, width, a);
+    let mut at = Vec::with_capacity(alloc, room)?;
     let mut ends = vec![in alloc; 0; gaps.len()]?;
     let front = ends.as_mut_slice();
     let placed = &mut Progress::none();
-    let mut seen = Row::with_room(alloc, MOST_OFTEN)?;
+    let mut seen = Row::with_room(alloc, room)?;
     let mut row = Row::with_room(alloc, SPANS_OFTEN)?;
     let mut most = 2048;
     for m in a..starts.len() {
