@@ -7,7 +7,7 @@ use Rattle.mus_score.specs.declared.score.Score.{Score}
 use Rattle.mus_score.specs.GoodScore.{IsGoodScore}
 use Rattle.lay_breaks.specs.declared.costs.Span.{Span}
 use Rattle.lay_breaks.specs.Spans.{AreSpans}
-use Rattle.lay_rows.specs.Tables.{IsCostTable}
+use Rattle.lay_rows.specs.Tables.{IsForceTable}
 use Rattle.lay_springs.specs.Place.{length_at, reach_at}
 use Rattle.lay_springs.specs.ReachView.{reach_in_near}
 use Rattle.lay_springs.proofs.Ends.{lengths_short}
@@ -16,13 +16,12 @@ use Rattle.lay_reaches.specs.declared.column.Column.{Column}
 use Rattle.lay_reaches.specs.Column.{length_scales, length_short}
 use Rattle.lay_reaches.specs.Columns.{column_reach}
 use Rattle.lay_reaches.proofs.Gaps.{gaps_narrow}
-use Rattle.lay_spans.specs.Badness.{badness_of}
 use Rattle.lay_spans.specs.Columns.{AreMeasures, span_columns}
 use Rattle.lay_spans.specs.Forced.{is_forced}
 use Rattle.lay_spans.specs.Rows.{IsRowFrom, rows_spans}
-use Rattle.lay_spans.specs.SpanList.{IsCost}
+use Rattle.lay_spans.specs.SpanList.{HasForce}
 use Rattle.lay_spans.proofs.Adding.{columns_some}
-use Rattle.lay_spans.proofs.Growing.{costs_more, free_more, rows_are_spans, rows_tell_spans, stops_at, stops_after}
+use Rattle.lay_spans.proofs.Growing.{forces_more, free_more, rows_are_spans, rows_tell_spans, stops_at, stops_after}
 use Rattle.lay_tune.specs.Spans.{AreSpansOf, CanStandIn, IsForceOf, column_length, score_gaps, verses_of}
 use Rattle.lay_tune.proofs.Open.{spans_read}
 use Rattle.law_every_layout.proofs.Columns.{has_each, have_measures}
@@ -57,13 +56,13 @@ module _ (gaps : List ℕ) (width : ℕ) (narrow : All (λ g. g ≤ 2 ^ 20) gaps
     abbrev IsRow : List ℕ → Type 0
     IsRow row = IsRowFrom column_reach column_length gaps width starts others forced a row
 
-    abbrev Costs : ℕ → ℕ → Type 0
-    Costs b v = IsCost column_reach column_length gaps width starts others forced a b v
+    abbrev Has : ℕ → ℕ → Type 0
+    Has b force = HasForce column_reach column_length gaps width starts others forced a b force
 
     -- the part of it up to bar m, after which d measures are left
     row_on : (d m : ℕ) (row : List ℕ)
         → m + d ≡ length starts → a + length row ≡ m
-        → ((k : ℕ) → k < length row → Costs (a + 1 + k) (slice_index row k))
+        → ((k : ℕ) → k < length row → Has (a + 1 + k) (slice_index row k))
         → ((f : ℕ) → a < f → f < m + 1 → forced f ≡ true → ⊥) → (row : List ℕ) × IsRow row
     row_on zero m row left count each free = (
       row,
@@ -82,11 +81,11 @@ module _ (gaps : List ℕ) (width : ℕ) (narrow : All (λ g. g ≤ 2 ^ 20) gaps
                 (omega (arith, left)) count each never,
           )
           | inl pressed ↦
-              let v = badness_of ((m + 1) == length starts) pressed.0 in
-              let more = costs_more column_reach column_length gaps width starts others forced a m row v count each
-              (record { free = λ h. free h.0 h.1 h.2 h.3; pressed = (pressed.0, pressed.1, refl) }) in
-              let next : List ℕ = row ++ v ∷ [] in
-              let grown = length-append row (v ∷ []) in
+              let more =
+              forces_more column_reach column_length gaps width starts others forced a m row pressed.0 count each
+              (record { free = λ h. free h.0 h.1 h.2 h.3; pressed = pressed.1 }) in
+              let next : List ℕ = row ++ pressed.0 ∷ [] in
+              let grown = length-append row (pressed.0 ∷ []) in
               let longer : a + length next ≡ m + 1 = omega (arith, count, grown) in
               (elim (forced (m + 1)) as (λ t. forced (m + 1) ≡ t → (row : List ℕ) × IsRow row) [
                 | true ↦ λ is. (
@@ -111,12 +110,13 @@ has_spans s width good heard =
     let rows = has_each [] (IsRowFrom column_reach column_length (score_gaps s) width c.starts c.others forced)
     (length c.starts)
     (λ a l. has_row (score_gaps s) width (gaps_narrow (verses_of s)) c.starts c.others forced c.measures a l) in
-    let table : IsCostTable
+    let table : IsForceTable
     (λ a row. IsRowFrom column_reach column_length (score_gaps s) width c.starts c.others forced a row)
     (length c.starts) rows.0 = record { count = rows.1; each = rows.2 } in (
-      rows_spans 0 rows.0,
-      subst (λ n. AreSpans n (rows_spans 0 rows.0)) c.count
+      rows_spans (length c.starts) 0 rows.0,
+      subst (λ n. AreSpans n (rows_spans (length c.starts) 0 rows.0)) c.count
           (rows_are_spans column_reach column_length (score_gaps s) width c.starts c.others forced rows.0 table),
-      spans_read s width c.starts c.others (rows_spans 0 rows.0) (score_gaps s) s.forced c.count refl refl c.join
+      spans_read s width c.starts c.others (rows_spans (length c.starts) 0 rows.0) (score_gaps s) s.forced c.count
+          refl refl c.join
           (rows_tell_spans column_reach column_length (score_gaps s) width c.starts c.others forced rows.0 table),
     )

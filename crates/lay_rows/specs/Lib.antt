@@ -1,2 +1,3 @@
+pub mod Badness
 pub mod Costs
 pub mod Tables

@@ -1,5 +1,5 @@
 ghost use Rattle.std.specs.Prelude.{◌≡◌, ◌-◌, ◌<◌, ◌≤◌, ◌^◌, ℕ, List, IfOk, length, slice_index};
-ghost use Rattle.lay_rows.specs.Tables.{IsCostTable};
+ghost use Rattle.lay_rows.specs.Tables.{IsForceTable};
 
 use crate::rows::Rows;
 use eng_jobs::{Jobs, Work, work_all};
@@ -7,20 +7,20 @@ use mus_units::{Memory, Row};
 use std::alloc::Global;
 use std::thread::Threads;
 
-/// A table of costs that is made row by row.
+/// A table of the forces of spans that is made row by row.
 ///
 /// The maker itself holds all that a row is made from, so that several threads may share it.
 pub trait RowMaker {
-    ghost use Rattle.std.specs.Prelude.{◌≡◌, ◌<◌, ◌≤◌, ◌^◌, ℕ, List, All, IfOk};
+    ghost use Rattle.std.specs.Prelude.{◌≡◌, ◌<◌, ◌≤◌, ℕ, List, All, IfOk};
 
     // the number of rows of the table
     ghost bars: { Self → ℕ };
 
-    // the row of a bar: the costs of the spans from it that fit, the shortest first
+    // the row of a bar: the forces of the spans from it that fit, the shortest first
     ghost is_row: { Self → ℕ → List ℕ → Type 0 };
 
     /// Returns the row of bar `a`. The only error is `Memory`.
-    fn costs_from(&self, a: u32) -> Result<Row<u64>, Memory>
+    fn forces_from(&self, a: u32) -> Result<Row<u16>, Memory>
         requires { a < bars self.now }
         ensures { IfOk result (λ row. is_row self.now a row) };
 
@@ -28,8 +28,9 @@ pub trait RowMaker {
     ghost is_one: { (m : Self) (a : ℕ) (row other : List ℕ)
         → a < bars m → is_row m a row → is_row m a other → row ≡ other };
 
-    // no cost passes 2^40
-    ghost is_small: { (m : Self) (a : ℕ) (row : List ℕ) → a < bars m → is_row m a row → All (λ v. v ≤ 2 ^ 40) row };
+    // no force passes 2048
+    ghost is_low: { (m : Self) (a : ℕ) (row : List ℕ)
+        → a < bars m → is_row m a row → All (λ force. force ≤ 2048) row };
 }
 
 /// The work of a maker on its bars.
@@ -38,13 +39,13 @@ struct Making<'a, M> {
     maker: &'a M,
 }
 
-impl<'a, M: RowMaker> Work<u32, Row<u64>> for Making<'a, M> {
+impl<'a, M: RowMaker> Work<u32, Row<u16>> for Making<'a, M> {
     ghost takes = { λ w a. a < M.bars w.maker.now };
 
     ghost gives = { λ w a row. M.is_row w.maker.now a row };
 
-    fn work(&self, a: u32, _jobs: Jobs) -> Result<Row<u64>, Memory> {
-        self.maker.costs_from(a)
+    fn work(&self, a: u32, _jobs: Jobs) -> Result<Row<u16>, Memory> {
+        self.maker.forces_from(a)
     }
 }
 
@@ -74,7 +75,7 @@ pub fn make_rows<R: Threads + Sync, M: RowMaker + Sync>(
     requires bars { n ≡ M.bars maker.now }
     requires short { n ≤ 4000 }
     requires within { (a : ℕ) (row : List ℕ) → a < n → M.is_row maker.now a row → length row ≤ n - a }
-    ensures { IfOk result (λ made. IsCostTable (M.is_row maker.now) n made.rows) }
+    ensures { IfOk result (λ made. IsForceTable (M.is_row maker.now) n made.rows) }
 {
     let bars = bars_below(alloc, n)?;
     let rows = work_all(rt, alloc, bars, jobs, &Making { maker })?;

@@ -1,4 +1,3 @@
-pub mod Badness
 pub mod Columns
 pub mod Forced
 pub mod SpanList

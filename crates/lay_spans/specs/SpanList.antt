@@ -5,7 +5,8 @@ use Rattle.lay_springs.specs.Place.{reach_at, length_at}
 use Rattle.lay_springs.specs.Fit.{Fits, CanStandWithin}
 use Rattle.lay_breaks.specs.declared.costs.Span.{Span}
 use Rattle.lay_breaks.specs.Spans.{listed}
-use Rattle.lay_spans.specs.{Badness.badness_of, Columns.span_columns, Forced.ForcedInside}
+use Rattle.lay_rows.specs.Badness.{badness_of}
+use Rattle.lay_spans.specs.{Columns.span_columns, Forced.ForcedInside}
 
 -- the end of the columns at a force is at most the width
 abbrev pub FitsAt : {C : Type 0} → (C → ℕ → Option Reach) → (C → ℕ → ℕ) → List ℕ → ℕ → ℕ → List C → Type 0
@@ -23,6 +24,12 @@ pub record IsForce {C : Type 0} (reach : C → ℕ → Option Reach) (len : C �
   pub bound : force ≤ 2048
   pub fits : FitsAt reach len gaps width force columns
   pub greatest : (g : ℕ) → force < g → g ≤ 2048 → FitsAtForce reach len gaps width g columns → ⊥
+
+-- the span from bar a to bar b fits with a force: no forced bar is strictly inside, and the force is its columns' own
+pub record HasForce {C : Type 0} (reach : C → ℕ → Option Reach) (len : C → ℕ → ℕ) (gaps : List ℕ) (width : ℕ)
+    (starts others : List (List C)) (forced : ℕ → Bool) (a b force : ℕ) : Type 0 where
+  pub free : ForcedInside forced a b → ⊥
+  pub pressed : IsForce reach len gaps width (span_columns starts others a b) force
 
 -- the span from bar a to bar b fits and costs v: no forced bar is strictly inside, and v is the badness of its force
 pub record IsCost {C : Type 0} (reach : C → ℕ → Option Reach) (len : C → ℕ → ℕ) (gaps : List ℕ) (width : ℕ)

@@ -6,7 +6,7 @@ use lay_rows::Rows;
 use mus_units::Row;
 
 /// The spans that fit, as a list by the bar after which they begin and then by the bar with which
-/// they end, and their costs as rows.
+/// they end, and their forces as rows.
 #[derive(Drop)]
 pub struct FittingSpans {
     pub list: Row<Span>,
@@ -42,7 +42,7 @@ impl<'a> Costs for SpanCosts<'a> {
 
     ghost stays_none = { λ s a b c l m h e. cost_stops s.rows.now.rows a b c l m e };
 
-    ghost is_small = { λ s a b l h. cost_small s.rows.now.rows s.rows.now.small a b l };
+    ghost is_small = { λ s a b l h. cost_small s.rows.now.rows s.rows.now.low a b l };
 
     ghost begins_free = { λ s. s.begins };
 }

@@ -1,7 +1,7 @@
 ghost use Rattle.std.specs.Prelude.{◌≡◌, ◌+◌, ◌<◌, ◌≤◌, ◌^◌, ℕ, length, slice_index, slice_index_or, false};
 ghost use Rattle.lay_spans.specs.Columns.{AreMeasures};
 ghost use Rattle.lay_spans.specs.Rows.{IsRowFrom};
-ghost use Rattle.lay_spans.specs.Single.{measures_prop, one_row, row_small};
+ghost use Rattle.lay_spans.specs.Single.{measures_prop, one_row, row_low};
 ghost use Rattle.lay_springs.proofs.Ends.{spring_rises};
 
 use crate::borrowed::BorrowedColumns;
@@ -34,7 +34,7 @@ impl<'a, C: Spaced + Spring> RowMaker for SpanMaker<'a, C> {
         IsRowFrom C.reach_of C.length_of m.gaps.now m.width m.starts.now m.others.now
         (λ b. slice_index_or m.marks.now b false) a row };
 
-    fn costs_from(&self, a: u32) -> Result<Row<u64>, Memory> {
+    fn forces_from(&self, a: u32) -> Result<Row<u16>, Memory> {
         row_from(
             self.alloc,
             self.starts,
@@ -51,7 +51,7 @@ impl<'a, C: Spaced + Spring> RowMaker for SpanMaker<'a, C> {
         (λ b. slice_index_or m.marks.now b false) (λ c f g l m. spring_rises C.length_of C.scales c f g l) a row other h
         k };
 
-    ghost is_small = { λ m a row l h.
-        row_small C.reach_of C.length_of m.gaps.now m.width m.starts.now m.others.now
+    ghost is_low = { λ m a row l h.
+        row_low C.reach_of C.length_of m.gaps.now m.width m.starts.now m.others.now
         (λ b. slice_index_or m.marks.now b false) a row h };
 }

@@ -6,14 +6,14 @@ ghost use Rattle.lay_spans.specs.Rows.{IsRowFrom, row_spans, rows_spans};
 ghost use Rattle.lay_spans.specs.SpanList.{FitsAt, FitsAtForce};
 
 use crate::borrowed::BorrowedColumns;
-use crate::forces::badness;
 use crate::seen::BorrowedColumn;
 use lay_breaks::Span;
+use lay_rows::badness;
 use lay_springs::{Progress, Spaced, Spring, fit_within, most_columns};
 use mus_units::{Memory, Row};
 use std::alloc::Global;
 
-/// The capacity for columns that is reserved at once; most tried spans have no more.
+/// The capacity for columns that is reserved at once; most spans of a breaking have no more.
 pub(crate) const MOST_OFTEN: usize = 64;
 
 /// The capacity for spans that is reserved for a row; most rows have no more.
@@ -85,10 +85,31 @@ pub(crate) fn see<'a, C: Spaced + Spring>(
     Ok(())
 }
 
-/// Returns the costs of the spans from bar `a`, from the shortest to the longest that fits. It adds
+/// Returns how many columns the searches from bar `a` are given at most: those of the measures up to
+/// the first with which they are too many to be within the width.
+fn room_from<'a, C>(
+    starts: &'a [Row<C>],
+    others: &'a [BorrowedColumns<'a, C>],
+    width: u32,
+    a: usize,
+) -> usize
+    requires same { length others.now ≡ length starts.now }
+{
+    let most = most_columns(width);
+    let mut room: usize = 0;
+    for m in a..starts.len() {
+        room = room.saturating_add(measure(starts, others, a, m).len());
+        if most < room {
+            return room;
+        }
+    }
+    room
+}
+
+/// Returns the forces of the spans from bar `a`, from the shortest to the longest that fits. It adds
 /// the columns of one measure at a time, and stops at the first span that doesn't fit or after a
 /// forced bar. Each search for a force resumes from the columns as the search before left them, and
-/// takes no memory.
+/// takes no memory: its scratch is reserved before the first.
 pub(crate) fn row_from<'a, C: Spaced + Spring>(
     alloc: Global,
     starts: &'a [Row<C>],
@@ -97,7 +118,7 @@ pub(crate) fn row_from<'a, C: Spaced + Spring>(
     width: u32,
     marks: &[bool],
     a: usize,
-) -> Result<Row<u64>, Memory>
+) -> Result<Row<u16>, Memory>
     requires measures { AreMeasures C.reach_of (length gaps.now) starts.now others.now }
     requires lanes { length gaps.now < 2 ^ 32 }
     requires narrow { (lane : ℕ) → lane < length gaps.now → slice_index gaps.now lane ≤ 2 ^ 20 }
@@ -106,11 +127,12 @@ pub(crate) fn row_from<'a, C: Spaced + Spring>(
     ensures { IfOk result (λ row. IsRowFrom C.reach_of C.length_of gaps.now width starts.now others.now
         (λ b. slice_index_or marks.now b false) a row) }
 {
-    let mut at = Vec::with_capacity(alloc, MOST_OFTEN)?;
+    let room = room_from(starts, others, width, a);
+    let mut at = Vec::with_capacity(alloc, room)?;
     let mut ends = vec![in alloc; 0; gaps.len()]?;
     let front = ends.as_mut_slice();
     let placed = &mut Progress::none();
-    let mut seen = Row::with_room(alloc, MOST_OFTEN)?;
+    let mut seen = Row::with_room(alloc, room)?;
     let mut row = Row::with_room(alloc, SPANS_OFTEN)?;
     let mut most = 2048;
     for m in a..starts.len() {
@@ -120,7 +142,7 @@ pub(crate) fn row_from<'a, C: Spaced + Spring>(
         let Some(force) = greatest_force(columns, gaps, width, most, &mut at, front, placed) else {
             return Ok(row);
         };
-        row.push(badness(force, m + 1 == starts.len()))?;
+        row.push(force)?;
         if marks[m + 1] {
             return Ok(row);
         }
@@ -129,32 +151,33 @@ pub(crate) fn row_from<'a, C: Spaced + Spring>(
     Ok(row)
 }
 
-/// Adds the spans of the row of bar `a`.
-fn add_row(out: &mut Row<Span>, a: u32, row: &[u64]) -> Result<(), Memory>
+/// Adds the spans of the row of bar `a`, each with the badness of its force; the last bar is `n`.
+fn add_row(out: &mut Row<Span>, n: u32, a: u32, row: &[u16]) -> Result<(), Memory>
     requires { a + length row.now < 2 ^ 32 }
-    ensures { OnOk result (out.new ≡ out.old ++ row_spans a (a + 1) row.now) }
+    ensures { OnOk result (out.new ≡ out.old ++ row_spans n a (a + 1) row.now) }
 {
     let mut b = a;
-    for cost in row {
+    for force in row {
         b += 1;
         out.push(Span {
             a,
             b,
-            badness: *cost,
+            badness: badness(*force, b == n),
         })?;
     }
     Ok(())
 }
 
 /// Returns the rows as a list of spans.
-pub(crate) fn list_rows(alloc: Global, rows: &[Row<u64>]) -> Result<Row<Span>, Memory>
+pub(crate) fn list_rows(alloc: Global, rows: &[Row<u16>]) -> Result<Row<Span>, Memory>
     requires few { length rows.now ≤ 4000 }
     requires short { (a : ℕ) → a < length rows.now → length (slice_index_or rows.now a []) ≤ 4000 }
-    ensures { IfOk result (λ spans. spans ≡ rows_spans 0 rows.now) }
+    ensures { IfOk result (λ spans. spans ≡ rows_spans (length rows.now) 0 rows.now) }
 {
     let mut out = Row::new(alloc);
-    for a in 0..rows.len() {
-        add_row(&mut out, a as u32, rows[a].as_slice())?;
+    let n = rows.len() as u32;
+    for a in 0..n {
+        add_row(&mut out, n, a, rows[a as usize].as_slice())?;
     }
     Ok(out)
 }

@@ -2,7 +2,7 @@ ghost use Rattle.std.specs.Prelude.{◌≡◌, ◌+◌, ◌<◌, ◌≤◌, ◌^
 ghost use Rattle.lay_breaks.specs.Spans.{AreSpans};
 ghost use Rattle.lay_spans.specs.Columns.{AreMeasures, span_columns};
 ghost use Rattle.lay_spans.specs.Forced.{is_forced};
-ghost use Rattle.lay_spans.specs.SpanList.{IsSpanList};
+ghost use Rattle.lay_spans.specs.{Rows.{HaveForces}, SpanList.{IsSpanList}};
 
 use crate::borrowed::BorrowedColumns;
 use crate::costs::FittingSpans;
@@ -42,6 +42,8 @@ pub fn spans_of<'a, R: Threads + Sync, C: Spaced + Spring + Sync>(
     requires narrow { (lane : ℕ) → lane < length gaps.now → slice_index gaps.now lane ≤ 2 ^ 20 }
     ensures form { IfOk result (λ spans. AreSpans (length starts.now) spans.list) }
     ensures bars { IfOk result (λ spans. length spans.rows.rows ≡ length starts.now) }
+    ensures forces { IfOk result (λ spans. HaveForces C.reach_of C.length_of gaps.now width starts.now others.now
+        (is_forced (length starts.now) forced.now) spans.rows.rows) }
     ensures exact { IfOk result (λ spans. IsSpanList C.reach_of C.length_of gaps.now width starts.now others.now
         (is_forced (length starts.now) forced.now) spans.list) }
 {

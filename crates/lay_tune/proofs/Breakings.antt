@@ -8,7 +8,8 @@ use Rattle.lay_breaks.specs.declared.costs.Span.{Span}
 use Rattle.lay_breaks.specs.Breaking.{FitsFrom, IsChosen, IsLegal, RisesFrom, last_from, sum_from}
 use Rattle.lay_breaks.specs.Spans.{listed}
 use Rattle.lay_spans.specs.Single as single
-use Rattle.lay_spans.specs.{Badness.badness_of, Forced.is_forced}
+use Rattle.lay_rows.specs.Badness.{badness_of}
+use Rattle.lay_spans.specs.Forced.{is_forced}
 use Rattle.lay_tune.specs.Spans.{AreSpansOf, CanStandIn, IsForceOf, IsSpanCost, column_length, is_forced_in, score_gaps}
 use Rattle.lay_tune.specs.Spans.{system_columns}
 use Rattle.lay_tune.specs.Breakings.{CanBeSystem, CostTogether, IsLeastBreaking, IsLegalIn}

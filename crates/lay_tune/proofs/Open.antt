@@ -1,6 +1,6 @@
 -- The spans of a score, and that a breaking of them can be set.
 use Rattle.std.proofs.Common.{◌≡◌, ℕ, ◌-◌, ◌<◌, ◌≤◌, ◌*◌, ◌^◌, ◌==◌, not, Bool, List, [], ◌∷◌, length, map, Option}
-use Rattle.std.proofs.Common.{Some, None, IsSome, sym, ◌∙◌, ap, subst, refl, arith}
+use Rattle.std.proofs.Common.{Some, None, IsSome, option_map, sym, ◌∙◌, ap, subst, refl, arith}
 use Rattle.std.proofs.lemmas.Bool.{true≢false}
 use Rattle.std.proofs.lemmas.List.{length-map}
 use Rattle.std.proofs.lemmas.List.Elements.{All-from_recursion}
@@ -19,21 +19,19 @@ use Rattle.mus_marks.specs.System.{drawn_staves, is_drawn_lower}
 use Rattle.mus_marks.proofs.Fitting.{few_verses}
 use Rattle.mus_marks.proofs.Groups.{grouped_map}
 use Rattle.lay_reaches.specs.declared.column.Column.{Column}
-use Rattle.lay_reaches.specs.Column.{length_rises}
 use Rattle.lay_reaches.specs.Columns.{column_reach}
 use Rattle.lay_springs.specs.Place.{length_at, reach_at}
-use Rattle.lay_springs.specs.Fit.{Passes}
-use Rattle.lay_springs.proofs.Longer.{cannot_stand, stand_few, stands}
-use Rattle.lay_springs.proofs.Ends.{length_rises as lengths_rise}
+use Rattle.lay_springs.proofs.Longer.{stand_few, stands}
 use Rattle.lay_breaks.specs.declared.costs.Span.{Span}
 use Rattle.lay_breaks.specs.declared.breaking.BreakError.{BreakError}
 use Rattle.lay_breaks.specs.Answers.{IsCause}
 use Rattle.lay_breaks.specs.Breaking.{FitsFrom, IsChosen, IsReached, NoneLegal, RisesFrom, last_from}
 use Rattle.lay_breaks.specs.Spans.{AreSpans, listed}
-use Rattle.lay_spans.specs.Badness.{badness_of}
+use Rattle.lay_rows.specs.{Badness.{badness_of}, Costs.{force_in}}
+use Rattle.lay_spans.specs.declared.costs.FittingSpans.{FittingSpans}
 use Rattle.lay_spans.specs.Columns.{AreMeasures, span_columns}
 use Rattle.lay_spans.specs.Forced.{is_forced}
-use Rattle.lay_spans.specs.SpanList.{IsSpanList}
+use Rattle.lay_spans.specs.{Rows.{HaveForces}, SpanList.{IsSpanList}}
 use Rattle.lay_spans.proofs.Adding.{columns_some}
 use Rattle.lay_tune.proofs.StaffCounts.{count_grouped, few_groups, none_more}
 use Rattle.lay_tune.specs.Spans.{AreColumnsOf, AreSpansOf, CanStandIn, IsForceOf, column_length, score_gaps}
@@ -41,46 +39,37 @@ use Rattle.lay_tune.specs.Spans.{system_columns, verses_of}
 use Rattle.lay_tune.specs.Layout.{IsCauseIn, layout_error}
 use Rattle.lay_tune.specs.Systems.{AllSpans, CanBeSet, HaveForce, gaps_between}
 
--- columns that have a force don't pass the width at force 0
-pub never_passes : (gaps : List ℕ) (width : ℕ) (last : Bool) (cost : ℕ) (columns : List Column)
-    → HaveForce gaps width last cost columns
-    → Passes (length columns) (reach_at column_reach columns) gaps (length_at column_length columns) width 0 → ⊥
-never_passes gaps width last cost columns h p =
-    cannot_stand (length columns) (reach_at column_reach columns) gaps (length_at column_length columns) width 0
-    h.pressed.0 h.some
-    (lengths_rise column_length columns 0 h.pressed.0 (λ c. length_rises c.natural 0 h.pressed.0 (omega arith)))
-    p (stands (length columns) (reach_at column_reach columns) gaps (length_at column_length columns) width h.pressed.0
-    h.pressed.1.fits)
-
 pub some_of : (o : Option ℕ) → IsSome o → (v : ℕ) × (o ≡ Some v)
 some_of None e = absurd (true≢false (sym e))
 some_of (Some v) e = (v, refl)
 
--- a listed span can be set
-pub span_open : (s : Score) (width : ℕ) (starts others : List (List Column)) (spans : List Span) (lanes : ℕ)
+-- a span of which the rows have a force can be set
+pub span_open : (s : Score) (width : ℕ) (starts others : List (List Column)) (rows : List (List ℕ)) (lanes : ℕ)
+    (forced : ℕ → Bool)
     → length starts ≡ s.measures → AreMeasures column_reach lanes starts others → AreColumnsOf s starts others
-    → AreSpansOf s width spans
-    → width < 2 ^ 32 → (a b : ℕ) → a < b → b ≤ s.measures → IsSome (listed spans a b)
-    → CanBeSet s width (listed spans) a b
-span_open s width starts others spans lanes count measures join h narrow a b l m some =
-    let v = some_of (listed spans a b) some in
-    let cost = h.each a b v.0 l m v.1 in
+    → HaveForces column_reach column_length (score_gaps s) width starts others forced rows
+    → width < 2 ^ 32 → (a b : ℕ) → a < b → b ≤ s.measures → IsSome (force_in rows a b)
+    → CanBeSet s width rows a b
+span_open s width starts others rows lanes forced count measures join h narrow a b l m some =
+    let force = some_of (force_in rows a b) some in
+    let pressed = (h a b force.0 l (omega arith) force.1).pressed in
     let begun = measures.begun a (omega arith) in
     let first : 0 < length (span_columns starts others a b) = columns_some starts others a b l begun in
     record {
       rises = l;
       within = m;
-      cost = v.0;
-      costs_so = v.1;
+      force = force.0;
+      pressed_so = force.1;
       columns = λ marks is.
           let columns = system_columns s marks in
-          let force = cost.pressed.2 marks is in
+          let own =
+          subst (λ columns. IsForceOf (score_gaps s) width columns force.0) (sym (join a b marks l m is)) pressed in
           let some = subst (λ columns. 0 < length columns) (sym (join a b marks l m is)) first in
           let few = stand_few (length columns) (reach_at column_reach columns) (score_gaps s)
-          (length_at column_length columns) width cost.pressed.0 some
+          (length_at column_length columns) width force.0 some
           (stands (length columns) (reach_at column_reach columns) (score_gaps s) (length_at column_length columns)
-          width cost.pressed.0 force.fits) in
-          record { some = some; few = omega (arith, few, narrow); pressed = (cost.pressed.0, force, cost.pressed.1) };
+          width force.0 own.fits) in
+          record { some = some; few = omega (arith, few, narrow); pressed = own };
     }
 
 pub past_last : (a : ℕ) (bs : List ℕ) → RisesFrom a bs → a ≤ last_from a bs
@@ -126,25 +115,34 @@ spans_read s width starts others spans gaps forced count is all join h =
           (subst (λ columns. CanStandIn (score_gaps s) width columns) (join a b marks l m is) stand);
     }
 
+-- a span that costs something has a force
+was_some : (f : ℕ → ℕ) (o : Option ℕ) → IsSome (option_map f o) → IsSome o
+was_some f None h = h
+was_some f (Some force) h = refl
+
 -- the chosen breaking can be set
-pub chosen_read : (s : Score) (width : ℕ) (starts others : List (List Column)) (spans : List Span)
+pub chosen_read : (s : Score) (width : ℕ) (starts others : List (List Column)) (spans : FittingSpans)
     (gaps forced breaks bars : List ℕ)
-    → length starts ≡ s.measures → gaps ≡ score_gaps s → forced ≡ s.forced → bars ≡ breaks
+    → length starts ≡ s.measures → gaps ≡ score_gaps s → bars ≡ breaks
     → AreMeasures column_reach (length (score_gaps s)) starts others
     → AreColumnsOf s starts others
-    → IsSpanList column_reach column_length gaps width starts others (is_forced (length starts) forced) spans
+    → HaveForces column_reach column_length gaps width starts others (is_forced (length starts) forced) spans.rows.rows
     → width < 2 ^ 32
-    → IsChosen (listed spans) (is_forced s.measures forced) s.measures breaks
-    → AllSpans (CanBeSet s width (listed spans)) 0 bars
-chosen_read s width starts others spans gaps forced breaks bars count is all ends measures join h narrow chosen =
-    let exact = spans_read s width starts others spans gaps forced count is all join h in
-    let legal =
-    (subst (λ these. IsChosen (listed spans) (is_forced s.measures these) s.measures breaks) all chosen).legal in
+    → IsChosen (listed spans.list) (is_forced s.measures forced) s.measures breaks
+    → AllSpans (CanBeSet s width spans.rows.rows) 0 bars
+chosen_read s width starts others spans gaps forced breaks bars count is ends measures join h narrow chosen =
+    let legal = chosen.legal in
     let last = legal.ends in
-    subst (λ these. AllSpans (CanBeSet s width (listed spans)) 0 these) (sym ends)
-    (all_open (CanBeSet s width (listed spans)) (listed spans) s.measures
+    let rows = spans.rows.rows in
+    subst (λ these. AllSpans (CanBeSet s width spans.rows.rows) 0 these) (sym ends)
+    (all_open (CanBeSet s width rows) (listed spans.list) s.measures
     (λ a b l m some.
-    span_open s width starts others spans (length (score_gaps s)) count measures join exact narrow a b l m some)
+    span_open s width starts others rows (length (score_gaps s)) (is_forced (length starts) forced) count measures join
+    (subst (λ these. HaveForces column_reach column_length these width starts others (is_forced (length starts) forced)
+    spans.rows.rows) is h)
+    narrow a b l m
+    (was_some (λ force. badness_of (b == length rows) force) (force_in rows a b)
+    (subst (λ o. IsSome o) (sym (spans.same a b)) some)))
     0 breaks legal.rises legal.fits (omega arith))
 
 -- if no breaking into the listed spans is legal, the score has none

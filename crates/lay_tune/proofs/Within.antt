@@ -1,8 +1,8 @@
 -- Columns that are apart rise from 0, and those of a system end within the width.
-use Rattle.std.proofs.Common.{◌≡◌, ◌∙◌, sym, ap, subst, refl, inl, inr, ℕ, if◌then◌else◌, ◌+◌, ◌-◌, ◌*◌, ◌/◌, ◌<◌, ◌≤◌}
-use Rattle.std.proofs.Common.{◌==◌, ◌^◌, ℤ, pos, ◌+ℤ◌, ◌≤ℤ◌, min, Bool, true, false, List, length, map, Option, Some}
+use Rattle.std.proofs.Common.{◌≡◌, ◌∙◌, sym, ap, subst, refl, inl, inr, ℕ, ◌+◌, ◌-◌, ◌*◌, ◌/◌, ◌<◌, ◌≤◌}
+use Rattle.std.proofs.Common.{◌==◌, ◌^◌, ℤ, pos, ◌+ℤ◌, ◌≤ℤ◌, Bool, true, false, List, length, map, Option, Some}
 use Rattle.std.proofs.Common.{arith}
-use Rattle.std.proofs.lemmas.Bool.{cases_lt, true≢false}
+use Rattle.std.proofs.lemmas.Bool.{cases_lt}
 use Rattle.std.proofs.lemmas.Bool.Decides.{nat_tests}
 use Rattle.std.proofs.lemmas.Int.{ints}
 use Rattle.std.proofs.lemmas.List.{length-map}
@@ -17,14 +17,12 @@ use Rattle.lay_springs.specs.declared.margin.Placed.{Placed}
 use Rattle.lay_springs.specs.Fit.{Fits, IsSet, counted, is_ragged}
 use Rattle.lay_springs.specs.Place.{IsPlace, StandApart, length_at, reach_at}
 use Rattle.lay_springs.proofs.Ends.{apart_down, length_rises as lengths_rise}
-use Rattle.lay_springs.proofs.Longer.{rises, stands}
+use Rattle.lay_springs.proofs.Longer.{rises}
 use Rattle.lay_reaches.specs.declared.column.Column.{Column}
 use Rattle.lay_reaches.specs.Column.{length_rises}
 use Rattle.lay_reaches.specs.Columns.{column_reach}
 use Rattle.lay_reaches.proofs.Facts.{columns_keys}
-use Rattle.lay_spans.specs.Badness.{badness_at}
 use Rattle.lay_spans.specs.Columns.{span_columns}
-use Rattle.lay_spans.specs.SpanList.{FitsAtForce}
 use Rattle.lay_spans.proofs.Fitting.{seen_as}
 use Rattle.lay_tune.specs.Spans.{AreColumnsOf, IsForceOf, IsSystemOf, column_length, score_gaps, system_columns}
 use Rattle.lay_tune.specs.Spans.{verses_of}
@@ -169,57 +167,6 @@ justified_seen f gaps width last seen force p pressed ragged counted loose set a
       apart;
 }
 
-ragged_last : (last : Bool) (force : ℕ) → is_ragged last force ≡ true → (last ≡ true) × (256 ≤ force)
-ragged_last false force e = absurd (true≢false (sym e))
-ragged_last true force e = (refl, grind (arith, nat_tests))
-
--- the greatest force that was tried counts as the columns' own, if none of the same cost is above all that were tried
-pub counts_same : (gaps : List ℕ) (width : ℕ) (last : Bool) (cost : ℕ) (columns : List Column) (most found : ℕ)
-    → (h : HaveForce gaps width last cost columns) → most ≤ 2048
-    → ((f : ℕ) → f ≤ 2048 → badness_at f ≤ cost → f ≤ most) → (cost ≡ 0 → most ≡ 256) → found ≤ most
-    → Fits (length columns) (reach_at column_reach columns) gaps (length_at column_length columns) width found
-    → ((g : ℕ) → found < g → g ≤ most → FitsAtForce column_reach column_length gaps width g columns → ⊥)
-    → (counted last found ≡ counted last h.pressed.0) × (is_ragged last found ≡ is_ragged last h.pressed.0)
-counts_same gaps width last cost columns most found h small high natural bound fits greatest =
-    by (is_ragged last h.pressed.0) refl
-  where
-    weaker : (g : ℕ) → g ≤ h.pressed.0 → FitsAtForce column_reach column_length gaps width g columns
-    weaker g l =
-        let at = stands (length columns) (reach_at column_reach columns) gaps (length_at column_length columns) width
-        h.pressed.0 h.pressed.1.fits in
-        let apart = apart_down (length columns) (reach_at column_reach columns) gaps (length_at column_length columns g)
-        (length_at column_length columns h.pressed.0) at.y
-        (lengths_rise column_length columns g h.pressed.0 (λ c. length_rises c.natural g h.pressed.0 l)) at.apart in
-        record { y = at.y; apart = apart; past = at.past; reaches = at.reaches }
-
-    least : found ≡ min h.pressed.0 most
-    least = elim (cases_lt found (min h.pressed.0 most)) [
-      | inl less ↦
-          absurd (greatest (min h.pressed.0 most) less (omega arith) (weaker (min h.pressed.0 most) (omega arith)))
-      | inr low ↦ elim (cases_lt h.pressed.0 found) [
-        | inl less ↦
-            absurd (h.pressed.1.greatest found less (omega arith)
-            (stands (length columns) (reach_at column_reach columns) gaps (length_at column_length columns) width found
-            fits))
-        | inr high ↦ omega (arith, low, high, bound)
-      ]
-    ]
-
-    by : (b : Bool) → is_ragged last h.pressed.0 ≡ b
-        → (counted last found ≡ counted last h.pressed.0) × (is_ragged last found ≡ is_ragged last h.pressed.0)
-    by false e =
-        let costs = h.pressed.2 ∙ ap (λ b. badness_at (if b then 256 else h.pressed.0)) e in
-        let own =
-        high h.pressed.0 h.pressed.1.bound (subst (λ v. badness_at h.pressed.0 ≤ v) (sym costs) (omega arith)) in
-        let same : found ≡ h.pressed.0 = omega (arith, own, least) in
-        (ap (counted last) same, ap (is_ragged last) same)
-    by true e =
-        let ends = ragged_last last h.pressed.0 e in
-        let all = natural (h.pressed.2 ∙ ap (λ b. badness_at (if b then 256 else h.pressed.0)) e) in
-        let same : found ≡ 256 = omega (arith, ends.1, all, least) in
-        let ragged : is_ragged last found ≡ true = rw (same, ends.0) refl in
-        (ap (λ b. if b then 256 else found) ragged ∙ sym (ap (λ b. if b then 256 else h.pressed.0) e), ragged ∙ sym e)
-
 -- ---- the columns of a system
 pub system_count : (s : Score) (m : SystemMarks) → length (system_columns s m) ≡ length m.keys
 system_count s m =
@@ -227,18 +174,18 @@ system_count s m =
     ∙ ap (λ ks. length ks) (columns_keys m.staves (timeline_of s).lengths (verses_of s) 0 m.keys)
 
 -- facts of a span that can be set, by the columns of its measures
-pub span_set : {s : Score} {width a b : ℕ} {costs : ℕ → ℕ → Option ℕ} {gaps : List ℕ}
+pub span_set : {s : Score} {width a b : ℕ} {rows : List (List ℕ)} {gaps : List ℕ}
     (starts others : List (List Column)) (columns : List Column)
-    → (fits : CanBeSet s width costs a b) → AreColumnsOf s starts others → gaps ≡ score_gaps s
+    → (fits : CanBeSet s width rows a b) → AreColumnsOf s starts others → gaps ≡ score_gaps s
     → columns ≡ span_columns starts others a b
-    → HaveForce gaps width (b == s.measures) fits.cost columns
+    → HaveForce gaps width fits.force columns
     × ((p : Placed) → IsJustified gaps width (b == s.measures) columns p → IsPlaced s width (has_system s a b).0 p)
     × AreKeys (map (λ c. c.key) columns) (called_keys s (timeline_of s).lengths a b)
-span_set {s} {width} {a} {b} {costs} {gaps} starts others columns fits join are is =
+span_set {s} {width} {a} {b} {rows} {gaps} starts others columns fits join are is =
     let m = (has_system s a b).0 in let call = (has_system s a b).1 in
     let same : system_columns s (has_system s a b).0 ≡ columns = join a b m fits.rises fits.within call ∙ sym is in (
-      subst (λ gs. HaveForce gs width (b == s.measures) fits.cost columns) (sym are)
-          (subst (HaveForce (score_gaps s) width (b == s.measures) fits.cost) same (fits.columns m call)),
+      subst (λ gs. HaveForce gs width fits.force columns) (sym are)
+          (subst (HaveForce (score_gaps s) width fits.force) same (fits.columns m call)),
       λ p h. subst (λ gs. IsJustified gs width (m.b == s.measures) (system_columns s m) p) are
           (subst (λ b. IsJustified gaps width (b == s.measures) (system_columns s m) p) (sym call.to)
           (subst (λ cs. IsJustified gaps width (b == s.measures) cs p) (sym same) h)),

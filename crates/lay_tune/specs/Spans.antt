@@ -11,7 +11,7 @@ use Rattle.lay_reaches.specs.Columns.{column_reach, columns_of}
 use Rattle.lay_reaches.specs.Lanes.{gaps_of}
 use Rattle.lay_breaks.specs.declared.costs.Span.{Span}
 use Rattle.lay_breaks.specs.Spans.{listed}
-use Rattle.lay_spans.specs.Badness.{badness_of}
+use Rattle.lay_rows.specs.Badness.{badness_of}
 use Rattle.lay_spans.specs.Columns.{span_columns}
 use Rattle.lay_spans.specs.Forced.{ForcedInside, is_forced}
 use Rattle.lay_spans.specs.SpanList.{IsForce, FitsAtForce}

@@ -1,6 +1,6 @@
 -- The systems of a breaking: the abscissas of their columns, and their stacked staves.
 use Rattle.std.specs.Prelude.{◌≡◌, ⊤, ℕ, ◌+◌, ◌<◌, ◌≤◌, ◌==◌, ◌^◌, Bool, true, false, not, ℤ, pos, ◌-ℤ◌, ◌≤ℤ◌, ◌<ℤ◌}
-use Rattle.std.specs.Prelude.{List, [], ◌∷◌, length, map, filter, drop, Option, Some, slice_index_or}
+use Rattle.std.specs.Prelude.{List, [], ◌∷◌, length, map, filter, drop, Some, slice_index_or}
 use Rattle.mus_score.specs.declared.score.Score.{Score}
 use Rattle.mus_score.specs.declared.score.Voice.{Voice}
 use Rattle.mus_score.specs.Seats.{stands_lower}
@@ -11,7 +11,7 @@ use Rattle.{mus_marks.specs.Tilt.{IsTilted}, lay_reaches.specs.{declared.column.
 use Rattle.lay_springs.specs.declared.margin.Placed.{Placed}
 use Rattle.lay_springs.specs.Place.{IsPlace, StandApart, length_at, reach_at}
 use Rattle.lay_springs.specs.Fit.{IsSet, counted, is_ragged}
-use Rattle.lay_spans.specs.Badness.{badness_of}
+use Rattle.lay_rows.specs.Costs.{force_in}
 use Rattle.lay_pages.specs.declared.stacking.Heights.{Heights}
 use Rattle.lay_pages.specs.Stacking.{AreStavesStacked}
 use Rattle.lay_tune.specs.Spans.{IsForceOf, IsSystemOf, column_length, score_gaps, system_columns}
@@ -66,20 +66,19 @@ pub record IsStack (s : Score) (m : SystemMarks) (h : Heights) : Type 0 where
   pub low : pos 0 ≤ℤ h.height
   pub high : h.height ≤ℤ pos (2 ^ 40)
 
--- Columns that can be placed, and whose greatest force has this cost.
-pub record HaveForce (gaps : List ℕ) (width : ℕ) (last : Bool) (cost : ℕ) (columns : List Column) : Type 0 where
+-- Columns that can be placed, and whose greatest force this is.
+pub record HaveForce (gaps : List ℕ) (width force : ℕ) (columns : List Column) : Type 0 where
   pub some : 0 < length columns
   pub few : length columns ≤ 2 ^ 26
-  pub pressed : (force : ℕ) × IsForceOf gaps width columns force × (cost ≡ badness_of last force)
+  pub pressed : IsForceOf gaps width columns force
 
--- A span that has a cost, and whose columns can be placed with a greatest force of that cost.
-pub record CanBeSet (s : Score) (width : ℕ) (costs : ℕ → ℕ → Option ℕ) (a b : ℕ) : Type 0 where
+-- A span of which rows have a force, the greatest of its columns, which can be placed.
+pub record CanBeSet (s : Score) (width : ℕ) (rows : List (List ℕ)) (a b : ℕ) : Type 0 where
   pub rises : a < b
   pub within : b ≤ s.measures
-  pub cost : ℕ
-  pub costs_so : costs a b ≡ Some cost
-  pub columns : (m : SystemMarks)
-      → IsSystemOf s a b m → HaveForce (score_gaps s) width (b == s.measures) cost (system_columns s m)
+  pub force : ℕ
+  pub pressed_so : force_in rows a b ≡ Some force
+  pub columns : (m : SystemMarks) → IsSystemOf s a b m → HaveForce (score_gaps s) width force (system_columns s m)
 
 -- each span of a breaking, the first of which begins at bar a
 abbrev pub AllSpans : (ℕ → ℕ → Type 0) → ℕ → List ℕ → Type 0

@@ -119,7 +119,7 @@ fn lay_out_measures<R: Threads + Sync>(
         marks,
         placed,
         heights,
-    } = set_systems(alloc, measured, voices, breaks, &spans)?;
+    } = set_systems(alloc, measured, voices, breaks, &spans.rows)?;
     Ok(Layout {
         breaking,
         systems: marks,

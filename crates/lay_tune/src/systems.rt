@@ -1,16 +1,15 @@
 ghost use Rattle.std.specs.Prelude.{◌≡◌, ◌+◌, ◌<◌, ◌≤◌, ◌^◌, ◌==◌, ℕ, All, IfOk, length, map, slice_index};
 ghost use Rattle.{mus_drawn.specs.{Drawn.drawn_voice, Good.AreGoodMeasures}, mus_laid.specs.Boxes.{AreGoodMarks}};
-ghost use Rattle.lay_breaks.specs.Spans.{listed};
 ghost use Rattle.lay_tune.specs.Measured.{IsMeasured};
 ghost use Rattle.lay_tune.specs.Systems.{AllSpans, Beside, CanBeSet, EachSpan, HaveForce, IsJustified, IsSetSystem};
 ghost use Rattle.lay_tune.specs.Systems.{IsStack};
 
 use crate::gaps::gaps_between;
-use lay_breaks::Costs;
 use lay_pages::{Heights, stack};
 use lay_reaches::Column;
-use lay_spans::{BorrowedColumn, BorrowedColumns, FittingSpans, columns_in, most_force};
-use lay_springs::{Placed, Progress, fit_within, justify};
+use lay_rows::Rows;
+use lay_spans::{BorrowedColumn, BorrowedColumns, columns_in};
+use lay_springs::{Placed, Progress, justify};
 use mus_drawn::DrawnVoice;
 use mus_laid::SystemMarks;
 use mus_marks::tilt_of;
@@ -31,30 +30,33 @@ pub(crate) struct Measured<'a> {
     pub(crate) width: u32,
 }
 
-/// Returns the columns placed at their greatest force, found by the cost of their span, and set to
-/// the width.
+/// Returns the columns placed at their greatest force and set to the width.
 fn press(
     alloc: Global,
     columns: &[BorrowedColumn<Column>],
     gaps: &[u32],
     width: u32,
     last: bool,
-    cost: u64,
+    force: u16,
 ) -> Result<Placed, Memory>
     requires lanes { length gaps.now < 2 ^ 32 }
     requires narrow { (lane : ℕ) → lane < length gaps.now → slice_index gaps.now lane ≤ 2 ^ 20 }
-    requires fits { HaveForce gaps.now width last cost (map (λ s. s.column.now) columns.now) }
+    requires fits { HaveForce gaps.now width force (map (λ s. s.column.now) columns.now) }
     ensures { IfOk result (IsJustified gaps.now width last (map (λ s. s.column.now) columns.now)) }
 {
-    let mut at = vec![in alloc; 0; columns.len()]?;
+    let at = vec![in alloc; 0; columns.len()]?;
     let mut ends = vec![in alloc; 0; gaps.len()]?;
     let front = ends.as_mut_slice();
-    let mut placed = Progress::none();
-    let most = most_force(cost);
-    let Some(force) = fit_within(columns, gaps, width, most, &mut at, front, &mut placed) else {
-        unreachable!();
-    };
-    Ok(justify(columns, gaps, width, force, last, at, front, placed))
+    Ok(justify(
+        columns,
+        gaps,
+        width,
+        force,
+        last,
+        at,
+        front,
+        Progress::none(),
+    ))
 }
 
 /// Returns the keys of columns.
@@ -83,20 +85,19 @@ fn set_system(
     voices: &mut [DrawnVoice<'_>],
     a: u32,
     b: u32,
-    spans: &FittingSpans,
+    rows: &Rows,
 ) -> Result<SetSystem, Memory>
     requires measured { IsMeasured measured.now }
     requires voices { voices.old ≡ map drawn_voice measured.now.score.now.voices }
     requires drawn { All (λ v. AreGoodMeasures v.measures) voices.old }
-    requires bars { length spans.now.rows.rows ≡ measured.now.score.now.measures }
-    requires fits { CanBeSet measured.now.score.now measured.now.width (listed spans.now.list) a b }
+    requires fits { CanBeSet measured.now.score.now measured.now.width rows.now.rows a b }
     ensures kept { voices.new ≡ voices.old }
     ensures system { IfOk result
         (λ set. IsSetSystem measured.now.score.now measured.now.width a b set.marks set.placed) }
     ensures heights { IfOk result (λ set. IsStack measured.now.score.now set.marks set.heights) }
     ensures good { IfOk result (λ set. All (λ staff. AreGoodMarks staff.marks) set.marks.staves) }
 {
-    let Some(cost) = spans.rows.cost(a, b) else {
+    let Some(force) = rows.force(a, b) else {
         unreachable!();
     };
     let score = measured.score;
@@ -104,7 +105,7 @@ fn set_system(
     let seen = columns_in(alloc, starts, others, a as usize, b as usize)?;
     let columns = seen.as_slice();
     let last = b == score.measures;
-    let placed = press(alloc, columns, measured.gaps, measured.width, last, cost)?;
+    let placed = press(alloc, columns, measured.gaps, measured.width, last, force)?;
     let keys = keys_in(alloc, columns)?;
     let at = placed.at.as_slice();
     let marks = tilt_of(alloc, score, voices, measured.times, a, b, keys, at)?;
@@ -132,13 +133,12 @@ pub(crate) fn set_systems(
     measured: &Measured<'_>,
     voices: &mut [DrawnVoice<'_>],
     breaks: &[u32],
-    spans: &FittingSpans,
+    rows: &Rows,
 ) -> Result<Systems, Memory>
     requires measured { IsMeasured measured.now }
     requires voices { voices.old ≡ map drawn_voice measured.now.score.now.voices }
     requires drawn { All (λ v. AreGoodMeasures v.measures) voices.old }
-    requires bars { length spans.now.rows.rows ≡ measured.now.score.now.measures }
-    requires fits { AllSpans (CanBeSet measured.now.score.now measured.now.width (listed spans.now.list)) 0 breaks.now }
+    requires fits { AllSpans (CanBeSet measured.now.score.now measured.now.width rows.now.rows) 0 breaks.now }
     ensures systems { IfOk result
         (λ r. EachSpan (IsSetSystem measured.now.score.now measured.now.width) 0 breaks.now r.marks r.placed) }
     ensures heights { IfOk result (λ r. Beside (IsStack measured.now.score.now) r.marks r.heights) }
@@ -149,7 +149,7 @@ pub(crate) fn set_systems(
     let mut heights = Row::with_room(alloc, breaks.len())?;
     let mut a = 0;
     for b in breaks {
-        let set = set_system(alloc, measured, voices, a, *b, spans)?;
+        let set = set_system(alloc, measured, voices, a, *b, rows)?;
         marks.push(set.marks)?;
         placed.push(set.placed)?;
         heights.push(set.heights)?;

@@ -1,7 +1,7 @@
 //! Two rows that wait for each other, which is in vain unless they are made in parallel.
 
 ghost use Rattle.std.specs.Prelude.{◌≡◌, ◌∷◌, []};
-ghost use Rattle.layout_tests.specs.Meeting.{one_row, row_small};
+ghost use Rattle.layout_tests.specs.Meeting.{one_row, row_low};
 
 use case_texts::{Meeting, Report};
 use eng_jobs::Jobs;
@@ -22,16 +22,16 @@ impl RowMaker for MeetingRows {
 
     ghost is_row = { λ _ a row. row ≡ a ∷ [] };
 
-    fn costs_from(&self, a: u32) -> Result<Row<u64>, Memory> {
+    fn forces_from(&self, a: u32) -> Result<Row<u16>, Memory> {
         self.meeting.wait(a as usize);
         let mut row = Row::new(self.alloc);
-        row.push(u64::from(a))?;
+        row.push(a as u16)?;
         Ok(row)
     }
 
     ghost is_one = { λ _ a row other _ h k. one_row a row other h k };
 
-    ghost is_small = { λ _ a row l h. row_small a row l h };
+    ghost is_low = { λ _ a row l h. row_low a row l h };
 }
 
 /// Adds the two rows by a number of jobs, and for each whether it met the other.

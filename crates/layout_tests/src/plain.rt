@@ -4,7 +4,7 @@ ghost use Rattle.std.specs.Prelude.{◌≤◌, ◌<◌, length};
 
 use case_texts::{CallCase, Report, count_at, number_at, numbers_of, put_placed};
 use lay_reaches::Column;
-use lay_spans::badness;
+use lay_rows::badness;
 use lay_springs::{Progress, Reach, fit_within, justify, place};
 use mus_onsets::{Class, ColumnKey};
 use mus_units::{Memory, Row};

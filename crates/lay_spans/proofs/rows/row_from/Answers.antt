@@ -3,10 +3,10 @@ use Rattle.std.proofs.Common.{false, slice_index_or, arith, sym, ◌∙◌, ap, 
 use Rattle.std.proofs.lemmas.List.{length-map, take_at}
 use Rattle.lay_springs.specs.Place.{HasPlaced}
 use Rattle.lay_spans.specs.Columns.{measures_from, span_columns}
-use Rattle.lay_spans.specs.SpanList.{IsForce, IsCost}
+use Rattle.lay_spans.specs.SpanList.{HasForce, IsForce}
 use Rattle.lay_spans.proofs.Adding.{columns_some}
 use Rattle.lay_spans.proofs.Fitting.{force_of, seen_as, still_above, never_stands}
-use Rattle.lay_spans.proofs.Growing.{placed_more, seen_more, costs_more, free_more, stops_at, stops_after}
+use Rattle.lay_spans.proofs.Growing.{placed_more, seen_more, forces_more, free_more, stops_at, stops_after}
 use Rattle.lay_spans.proofs.rows.row_from.Goals.{After-as_slice-columns, After-greatest_force, In_ok-push}
 use Rattle.lay_spans.proofs.rows.row_from.Goals as goal
 
@@ -44,19 +44,19 @@ returns-in_default g c =
 
 count : (g : _) (c : In_ok-push g) → c.args.a + length c.push.new.self ≡ c.loop-m.m + 1
 count g c =
-    let k : length c.push.new.self ≡ length (c.loop-m.row ++ c.badness.result ∷ []) =
+    let k : length c.push.new.self ≡ length (c.loop-m.row ++ c.in-Some.force ∷ []) =
     ap (λ row. length row) c.in_ok-push.ensures.ok in
-    let n = length-append c.loop-m.row (c.badness.result ∷ []) in
+    let n = length-append c.loop-m.row (c.in-Some.force ∷ []) in
     let i = c.loop-m.invariant.count in omega arith
 
 -- the span with this measure
 module _ (g : _) (c : In_ok-push g)
     (seen : map (λ s. s.column.now) c.as_slice-columns.result.now
     ≡ span_columns c.args.starts.now c.args.others.now c.args.a (c.loop-m.m + 1)) where
-  abbrev Costs : ℕ → ℕ → Type 0
-  Costs b v =
-      IsCost g.C.Spaced.reach_of g.C.Spring.length_of c.args.gaps.now c.args.width c.args.starts.now c.args.others.now
-      (λ b. slice_index_or c.args.marks.now b false) c.args.a b v
+  abbrev Has : ℕ → ℕ → Type 0
+  Has b f =
+      HasForce g.C.Spaced.reach_of g.C.Spring.length_of c.args.gaps.now c.args.width c.args.starts.now c.args.others.now
+      (λ b. slice_index_or c.args.marks.now b false) c.args.a b f
 
   force : IsForce g.C.Spaced.reach_of g.C.Spring.length_of c.args.gaps.now c.args.width
       (span_columns c.args.starts.now c.args.others.now c.args.a (c.loop-m.m + 1)) c.in-Some.force
@@ -70,19 +70,16 @@ module _ (g : _) (c : In_ok-push g)
       c.args.others.now c.args.a c.loop-m.m
       c.requires.measures c.requires.inside (let l = c.loop-m-test.true in omega arith) c.loop-m.invariant.above)
 
-  costs : Costs (c.loop-m.m + 1) c.badness.result
-  costs = record {
-    free = λ h. c.loop-m.invariant.free h.0 h.1 h.2 h.3;
-    pressed = (c.in-Some.force, force, c.badness.ensures.value);
-  }
+  has : Has (c.loop-m.m + 1) c.in-Some.force
+  has = record { free = λ h. c.loop-m.invariant.free h.0 h.1 h.2 h.3; pressed = force }
 
-  each : (k : ℕ) → k < length c.push.new.self → Costs (c.args.a + 1 + k) (slice_index_or c.push.new.self k 0)
+  each : (k : ℕ) → k < length c.push.new.self → Has (c.args.a + 1 + k) (slice_index_or c.push.new.self k 0)
   each =
-      subst (λ row. (k : ℕ) → k < length row → Costs (c.args.a + 1 + k) (slice_index_or row k 0))
+      subst (λ row. (k : ℕ) → k < length row → Has (c.args.a + 1 + k) (slice_index_or row k 0))
       (sym c.in_ok-push.ensures.ok)
-      (costs_more g.C.Spaced.reach_of g.C.Spring.length_of c.args.gaps.now c.args.width c.args.starts.now
+      (forces_more g.C.Spaced.reach_of g.C.Spring.length_of c.args.gaps.now c.args.width c.args.starts.now
       c.args.others.now (λ b. slice_index_or c.args.marks.now b false)
-      c.args.a c.loop-m.m c.loop-m.row c.badness.result c.loop-m.invariant.count c.loop-m.invariant.each costs)
+      c.args.a c.loop-m.m c.loop-m.row c.in-Some.force c.loop-m.invariant.count c.loop-m.invariant.each has)
 
 pub returns-then-marks-m : goal.returns-then-marks-m
 returns-then-marks-m g c =

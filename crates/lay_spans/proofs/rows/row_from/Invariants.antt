@@ -1,7 +1,7 @@
 use Rattle.std.proofs.Common.{◌≡◌, ◌+◌, ◌<◌, ◌≤◌, ℕ, length, map, slice_index, slice_index_or, true, false}
 use Rattle.lay_springs.specs.Place.{reach_at, length_at, HasPlaced}
 use Rattle.lay_spans.specs.Columns.{span_columns}
-use Rattle.lay_spans.specs.SpanList.{FitsAtForce, IsCost}
+use Rattle.lay_spans.specs.SpanList.{FitsAtForce, HasForce}
 use Rattle.lay_spans.proofs.rows.row_from.Given as goal
 
 abbrev pub invariant-loop-m : goal.invariant-loop-m
@@ -9,7 +9,7 @@ invariant-loop-m g l = record {
   columns : map (λ s. s.column.now) l.seen ≡ span_columns l.starts l.others l.a l.m;
   count : l.a + length l.row ≡ l.m;
   each : (k : ℕ) → k < length l.row
-      → IsCost g.C.Spaced.reach_of g.C.Spring.length_of l.gaps l.width l.starts l.others
+      → HasForce g.C.Spaced.reach_of g.C.Spring.length_of l.gaps l.width l.starts l.others
       (λ b. slice_index_or l.marks b false) l.a (l.a + 1 + k) (slice_index l.row k);
   free : (f : ℕ) → l.a < f → f < l.m + 1 → slice_index_or l.marks f false ≡ true → ⊥;
   most : l.most ≤ 2048;

@@ -22,10 +22,10 @@ returns-in-Err-clause-no_way g c =
 pub set_systems-requires-clause-fits : goal.set_systems-requires-clause-fits
 set_systems-requires-clause-fits g c =
     chosen_read c.args.measured.now.score.now c.args.measured.now.width c.args.measured.now.starts.now
-    c.args.measured.now.others.now c.in_ok-spans.spans.list
+    c.args.measured.now.others.now c.in_ok-spans.spans
     c.args.measured.now.gaps.now c.as_slice-forced.result.now c.in-Ok.breaking.breaks c.as_slice-breaks.result.now
-    c.requires.measured.count c.requires.measured.gaps c.as_slice-forced.ensures
-    c.as_slice-breaks.ensures c.requires.measured.measures c.requires.measured.columns c.in_ok-spans.ensures.exact
+    c.requires.measured.count c.requires.measured.gaps
+    c.as_slice-breaks.ensures c.requires.measured.measures c.requires.measured.columns c.in_ok-spans.ensures.forces
     (let narrow = c.requires.measured.wide in omega arith) c.in-Ok.ensures.chosen
 
 pub returns-clause-spans : goal.returns-clause-spans

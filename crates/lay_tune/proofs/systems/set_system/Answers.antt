@@ -1,4 +1,4 @@
-use Rattle.std.proofs.Common.{◌≡◌, ◌==◌, ◌∙◌, map, subst, sym, ap, arith, length}
+use Rattle.std.proofs.Common.{◌≡◌, ◌∙◌, map, subst, sym, ap, arith, length}
 use Rattle.std.proofs.lemmas.List.{length-map}
 use Rattle.std.proofs.lemmas.Option.{same_Some}
 use Rattle.mus_onsets.specs.Keys.{AreKeys, called_keys}
@@ -14,14 +14,13 @@ use Rattle.lay_tune.proofs.systems.set_system.Goals as goal
 
 pub press-requires-clause-fits : goal.press-requires-clause-fits
 press-requires-clause-fits c =
-    let cost : c.requires.fits.cost ≡ c.in-Some.cost =
-    same_Some c.requires.fits.cost c.in-Some.cost
-    (sym c.requires.fits.costs_so
-    ∙ (sym (c.args.spans.now.same c.args.a c.args.b) ∙ (sym c.cost.ensures ∙ c.in-Some.is))) in
-    subst (λ cost.
-    HaveForce c.args.measured.now.gaps.now c.args.measured.now.width
-    (c.args.b == c.args.measured.now.score.now.measures) cost (map (λ s. s.column.now) c.as_slice-columns.result.now))
-    cost
+    let force : c.requires.fits.force ≡ c.in-Some.force =
+    same_Some c.requires.fits.force c.in-Some.force
+    (sym c.requires.fits.pressed_so ∙ (sym c.force.ensures ∙ c.in-Some.is)) in
+    subst (λ force.
+    HaveForce c.args.measured.now.gaps.now c.args.measured.now.width force
+    (map (λ s. s.column.now) c.as_slice-columns.result.now))
+    force
     (span_set c.args.measured.now.starts.now c.args.measured.now.others.now
     (map (λ s. s.column.now) c.as_slice-columns.result.now) c.requires.fits c.requires.measured.columns
     c.requires.measured.gaps

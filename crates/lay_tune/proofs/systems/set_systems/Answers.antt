@@ -6,7 +6,6 @@ use Rattle.std.specs.List.{All}
 use Rattle.mus_laid.specs.Boxes.{AreGoodMarks}
 use Rattle.mus_laid.specs.declared.laid.SystemMarks.{SystemMarks}
 use Rattle.lay_springs.specs.declared.margin.Placed.{Placed}
-use Rattle.lay_breaks.specs.Spans.{listed}
 use Rattle.lay_tune.specs.Systems.{AllSpans, Beside, CanBeSet, EachSpan, IsSetSystem, IsStack}
 use Rattle.lay_tune.proofs.Rows.{beside_more, span_more}
 use Rattle.lay_tune.proofs.systems.set_systems.Goals as goal
@@ -50,7 +49,7 @@ loop-b-preserved c =
           (All-append Good c.loop-b.marks (c.in_ok-set.set.marks ∷ []) c.loop-b.invariant.good
           (All-cons Good c.in_ok-set.set.marks [] c.in_ok-set.ensures.good (All-nil Good)));
       fits =
-          (subst (λ bs. AllSpans (CanBeSet s c.args.measured.now.width (listed c.args.spans.now.list)) c.loop-b.a bs)
+          (subst (λ bs. AllSpans (CanBeSet s c.args.measured.now.width c.args.rows.now.rows) c.loop-b.a bs)
           next c.loop-b.invariant.fits).1;
     }
 

@@ -3,7 +3,6 @@ use Rattle.mus_laid.specs.declared.laid.SystemMarks.{SystemMarks}
 use Rattle.mus_laid.specs.Boxes.{AreGoodMarks}
 use Rattle.mus_drawn.specs.Drawn.{drawn_voice}
 use Rattle.lay_springs.specs.declared.margin.Placed.{Placed}
-use Rattle.lay_breaks.specs.Spans.{listed}
 use Rattle.lay_tune.specs.Systems.{AllSpans, Beside, CanBeSet, EachSpan, IsSetSystem, IsStack}
 use Rattle.lay_tune.proofs.systems.set_systems.Given as goal
 
@@ -15,5 +14,5 @@ invariant-loop-b l = record {
       → EachSpan (IsSetSystem l.measured.score.now l.measured.width) 0 l.breaks (l.marks ++ more) (l.placed ++ at);
   heights : Beside (IsStack l.measured.score.now) l.marks l.heights;
   good : All (λ m. All (λ staff. AreGoodMarks staff.marks) m.staves) l.marks;
-  fits : AllSpans (CanBeSet l.measured.score.now l.measured.width (listed l.spans.list)) l.a (drop l.b-index l.breaks);
+  fits : AllSpans (CanBeSet l.measured.score.now l.measured.width l.rows.rows) l.a (drop l.b-index l.breaks);
 }
