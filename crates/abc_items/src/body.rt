@@ -4,7 +4,15 @@ ghost use Rattle.abc_music.specs.Good.{AreGoodTokens, IsGoodToken};
 ghost use Rattle.abc_items.specs.Good.{IsGoodItem};
 ghost use Rattle.abc_items.specs.Voices.{declared_ids};
 ghost use Rattle.abc_items.specs.Body.{gives, placed_given, item_of_field, is_line_joined, end_item, item_of_line_end};
-ghost use Rattle.abc_items.specs.Body.{item_judged, MusicGives, LineGives, BodyGives, IsBody, IsBodyError, IsBodyResult};
+ghost use Rattle.abc_items.specs.Body.{
+  item_judged,
+  MusicGives,
+  LineGives,
+  BodyGives,
+  IsBody,
+  IsBodyError,
+  IsBodyResult,
+};
 ghost use Rattle.abc_items.specs.Reading.{maybe_given, Reads, Stops, ReadsSome, StopsBy, LinesStop, judged_as};
 ghost use Rattle.abc_items.specs.Reading.{past_fault};
 ghost use Rattle.abc_lines.specs.Good.{IsGoodLine, size_of};

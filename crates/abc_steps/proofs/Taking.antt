@@ -29,7 +29,8 @@ opened_less r events true true others fewer a b e =
 opened_less r events true false others fewer a b e =
     let none : nat_lt 1 (r - events) ≡ false = grind (arith, nat_tests, a, b) in
     e ∙ ap (λ t. less_by t (r - events) (each_less others)) (sym none)
-opened_less r events false true others fewer a b e = absurd (let clash : true ≡ false = grind (arith, nat_tests, a, b) in cc)
+opened_less r events false true others fewer a b e =
+    absurd (let clash : true ≡ false = grind (arith, nat_tests, a, b) in cc)
 opened_less r events false false others fewer a b e = e
 
 one_more : (before : Steps) (events : ℕ) → left_since before (events + 1) ≡ each_less (left_since before events)

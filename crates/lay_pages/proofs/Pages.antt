@@ -12,7 +12,7 @@ use Rattle.lay_breaks.specs.Breaking.{FitsFrom, IsChosen, NoneLegal, RisesFrom, 
 use Rattle.lay_breaks.proofs.Unique.{one_is_chosen}
 use Rattle.lay_pages.specs.Even.{AreEven, AreHeights, AreSpots, StandByPages, ComesAfter, ComeAfter, filled, parted}
 use Rattle.lay_pages.specs.Even.{group_heights, group_numbers, groups_after, heights_from, page_cost, page_height}
-use Rattle.lay_pages.specs.Even.{page_of, pages_of, span_height, square, stacked}
+use Rattle.lay_pages.specs.Even.{page_of, pages_of, span_height, stacked}
 use Rattle.lay_pages.specs.Parting.{AreFitting, ends_after, ends_page, even_spot_after, parted_from, parted_spots}
 use Rattle.lay_pages.specs.Parting.{turns}
 use Rattle.lay_pages.specs.declared.filling.Block.{Block}

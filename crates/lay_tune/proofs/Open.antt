@@ -37,7 +37,7 @@ use Rattle.lay_tune.proofs.StaffCounts.{count_grouped, few_groups, none_more}
 use Rattle.lay_tune.specs.Spans.{AreColumnsOf, AreSpansOf, CanStandIn, IsForceOf, column_length, score_gaps}
 use Rattle.lay_tune.specs.Spans.{system_columns, verses_of}
 use Rattle.lay_tune.specs.Layout.{IsCauseIn, layout_error}
-use Rattle.lay_tune.specs.Systems.{AllSpans, CanBeSet, HaveForce, gaps_between}
+use Rattle.lay_tune.specs.Systems.{AllSpans, CanBeSet, gaps_between}
 
 pub some_of : (o : Option ℕ) → IsSome o → (v : ℕ) × (o ≡ Some v)
 some_of None e = absurd (true≢false (sym e))
