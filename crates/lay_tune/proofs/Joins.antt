@@ -28,14 +28,14 @@ bar_ends : (verses : List ℕ) (columns : List Column)
     → EndsInAll column_reach (length (gaps_of verses)) columns
 bar_ends verses columns h stands =
     let all = subst (λ cs. All (StandsWhereDue verses) cs) h.parts stands in
-    let n = length-append h.front (h.last ∷ []) in
+    let n = length-append h.prefix (h.last ∷ []) in
     let due : StandsWhereDue verses h.last =
-    subst (StandsWhereDue verses) (get_or-append_seam h.front h.last [] h.last)
-    (all (length h.front) h.last (omega arith)) in
+    subst (StandsWhereDue verses) (get_or-append_seam h.prefix h.last [] h.last)
+    (all (length h.prefix) h.last (omega arith)) in
     let one : EndsInAll column_reach (length (gaps_of verses)) (h.last ∷ []) =
     record { some = omega arith; last = due (ap stands_always h.bar) } in
     subst (λ cs. EndsInAll column_reach (length (gaps_of verses)) cs) (sym h.parts)
-    (record { some = omega arith; last = ends_so column_reach (length (gaps_of verses)) h.front (h.last ∷ []) one })
+    (record { some = omega arith; last = ends_so column_reach (length (gaps_of verses)) h.prefix (h.last ∷ []) one })
 
 pub measure_of : (s : Score) (t : Timeline) (a m : ℕ) (verses : List ℕ) (columns : List Column)
     → IsGoodScore s → t ≡ timeline_of s → verses ≡ verses_of s → 1 ≤ length s.voices → m < s.measures
