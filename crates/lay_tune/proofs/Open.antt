@@ -26,10 +26,8 @@ use Rattle.lay_springs.specs.Fit.{Passes}
 use Rattle.lay_springs.proofs.Longer.{cannot_stand, stand_few, stands}
 use Rattle.lay_springs.proofs.Ends.{length_rises as lengths_rise}
 use Rattle.lay_breaks.specs.declared.costs.Span.{Span}
-use Rattle.lay_breaks.specs.declared.breaking.BreakError.{BreakError}
-use Rattle.lay_breaks.specs.Answers.{IsCause}
-use Rattle.lay_breaks.specs.Breaking.{FitsFrom, IsChosen, IsReached, NoneLegal, RisesFrom, last_from}
-use Rattle.lay_breaks.specs.Spans.{AreSpans, listed}
+use Rattle.lay_breaks.specs.Breaking.{FitsFrom, IsChosen, RisesFrom, last_from}
+use Rattle.lay_breaks.specs.Spans.{listed}
 use Rattle.lay_spans.specs.Badness.{badness_of}
 use Rattle.lay_spans.specs.Columns.{AreMeasures, span_columns}
 use Rattle.lay_spans.specs.Forced.{is_forced}
@@ -38,7 +36,6 @@ use Rattle.lay_spans.proofs.Adding.{columns_some}
 use Rattle.lay_tune.proofs.StaffCounts.{count_grouped, few_groups, none_more}
 use Rattle.lay_tune.specs.Spans.{AreColumnsOf, AreSpansOf, CanStandIn, IsForceOf, column_length, score_gaps}
 use Rattle.lay_tune.specs.Spans.{system_columns, verses_of}
-use Rattle.lay_tune.specs.Layout.{IsCauseIn, layout_error}
 use Rattle.lay_tune.specs.Systems.{AllSpans, CanBeSet, HaveForce, gaps_between}
 
 -- columns that have a force don't pass the width at force 0
@@ -146,21 +143,6 @@ chosen_read s width starts others spans gaps forced breaks bars count is all end
     (λ a b l m some.
     span_open s width starts others spans (length (score_gaps s)) count measures join exact narrow a b l m some)
     0 breaks legal.rises legal.fits (omega arith))
-
--- if no breaking into the listed spans is legal, the score has none
-pub cause_read : (s : Score) (width : ℕ) (spans : List Span) (forced : List ℕ) (error : BreakError)
-    → forced ≡ s.forced → AreSpans s.measures spans → AreSpansOf s width spans
-    → IsCause (listed spans) (is_forced s.measures forced) s.measures error → IsCauseIn s width (layout_error error)
-cause_read s width spans forced (BreakError.NoWay reached) all form exact h = (
-  spans,
-  record {
-    form = form;
-    exact = exact;
-    none = subst (λ these. NoneLegal (listed spans) (is_forced s.measures these) s.measures) all h.0;
-    furthest = subst (λ these. IsReached (listed spans) (is_forced s.measures these) s.measures reached) all h.1;
-  },
-)
-cause_read s width spans forced BreakError.Memory all form exact h = tt
 
 -- a score has few lanes
 small_sums : (n : ℕ) (staves : List (List DrawnVoice))
