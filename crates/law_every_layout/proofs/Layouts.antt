@@ -18,7 +18,7 @@ use Rattle.lay_tune.specs.declared.layout.Layout.{Layout}
 use Rattle.lay_tune.specs.Layout.{IsLayout, IsNoWay}
 use Rattle.lay_tune.specs.Spans.{AreSpansOf, is_forced_in}
 use Rattle.lay_tune.specs.Systems.{Beside, EachSpan, IsSetSystem, IsStack}
-use Rattle.lay_tune.proofs.Breakings.{least_of}
+use Rattle.lay_tune.proofs.Breakings.{least_of, no_way_of}
 use Rattle.lay_tune.proofs.Open.{past_last, some_of}
 use Rattle.law_every_layout.specs.Every.{EveryScoreIsLaid}
 use Rattle.law_every_layout.proofs.Broken.{has_breaking}
@@ -84,7 +84,7 @@ module _ (s : Score) (width : ℕ) (good : IsGoodScore s) (spans : List Span) (e
               },
             )
         | inr (none, (reached, furthest)) ↦
-            inr (reached, spans, record { form = form; exact = exact; none = none; furthest = furthest })
+            inr (reached, spans, no_way_of s width spans exact reached form none furthest)
       ]
 
 pub every_score : EveryScoreIsLaid

@@ -5,14 +5,17 @@ use Rattle.lay_reaches.specs.declared.column.Column.{Column}
 use Rattle.lay_reaches.specs.Column.{length_rises}
 use Rattle.lay_reaches.specs.Columns.{column_reach}
 use Rattle.lay_breaks.specs.declared.costs.Span.{Span}
-use Rattle.lay_breaks.specs.Breaking.{FitsFrom, IsChosen, IsLegal, RisesFrom, last_from, sum_from}
-use Rattle.lay_breaks.specs.Spans.{listed}
+use Rattle.lay_breaks.specs.declared.breaking.BreakError.{BreakError}
+use Rattle.lay_breaks.specs.Answers.{IsCause}
+use Rattle.lay_breaks.specs.Breaking.{FitsFrom, IsChosen, IsLegal, IsReached, NoneLegal, RisesFrom, last_from, sum_from}
+use Rattle.lay_breaks.specs.Spans.{AreSpans, listed}
 use Rattle.lay_spans.specs.Single as single
 use Rattle.lay_rows.specs.Badness.{badness_of}
 use Rattle.lay_spans.specs.Forced.{is_forced}
 use Rattle.lay_tune.specs.Spans.{AreSpansOf, CanStandIn, IsForceOf, IsSpanCost, column_length, is_forced_in, score_gaps}
 use Rattle.lay_tune.specs.Spans.{system_columns}
-use Rattle.lay_tune.specs.Breakings.{CanBeSystem, CostTogether, IsLeastBreaking, IsLegalIn}
+use Rattle.lay_tune.specs.Breakings.{CanBeSystem, CostTogether, IsLeastBreaking, IsLegalIn, IsLegalTo}
+use Rattle.lay_tune.specs.Layout.{IsCauseIn, IsNoWay, layout_error}
 use Rattle.lay_tune.specs.Systems.{AllSpans}
 use Rattle.lay_tune.proofs.Called.{has_system}
 use Rattle.lay_tune.proofs.Open.{past_last, some_of}
@@ -91,23 +94,48 @@ module _ (s : Score) (width : ℕ) where
           ap (λ o. unwrap_or o 0 + sum_from (listed spans) b bs) v.1,
         )
 
-    -- the legal breakings of the score are those into the listed spans
-    pub legal_in : (breaks : List ℕ)
-        → IsLegal (listed spans) (is_forced_in s) breaks s.measures → IsLegalIn s width breaks
-    legal_in breaks h = record {
+    -- the legal prefixes of the score, and so its legal breakings, are those into the listed spans
+    legal_to : (breaks : List ℕ) (i : ℕ)
+        → i ≤ s.measures → IsLegal (listed spans) (is_forced_in s) breaks i → IsLegalTo s width breaks i
+    legal_to breaks i within h = record {
       rises = h.rises;
       ends = h.ends;
       every_forced = h.every_forced;
-      fits = let e = h.ends in all_can_be 0 breaks h.rises (omega (arith, e)) h.fits;
+      fits = let e = h.ends in all_can_be 0 breaks h.rises (omega (arith, e, within)) h.fits;
     }
+
+    pub legal_listed_to : (breaks : List ℕ) (i : ℕ)
+        → i ≤ s.measures → IsLegalTo s width breaks i → IsLegal (listed spans) (is_forced_in s) breaks i
+    legal_listed_to breaks i within h = record {
+      rises = h.rises;
+      ends = h.ends;
+      every_forced = h.every_forced;
+      fits = let e = h.ends in all_fit 0 breaks h.rises (omega (arith, e, within)) h.fits;
+    }
+
+    pub legal_in : (breaks : List ℕ)
+        → IsLegal (listed spans) (is_forced_in s) breaks s.measures → IsLegalIn s width breaks
+    legal_in breaks h = legal_to breaks s.measures (omega arith) h
 
     pub legal_listed : (breaks : List ℕ)
         → IsLegalIn s width breaks → IsLegal (listed spans) (is_forced_in s) breaks s.measures
-    legal_listed breaks h = record {
-      rises = h.rises;
-      ends = h.ends;
-      every_forced = h.every_forced;
-      fits = let e = h.ends in all_fit 0 breaks h.rises (omega (arith, e)) h.fits;
+    legal_listed breaks h = legal_listed_to breaks s.measures (omega arith) h
+
+    -- so if none of the listed ones is legal, the score has none, and its legal prefixes go as far
+    pub no_way_of : (reached : ℕ)
+        → AreSpans s.measures spans → NoneLegal (listed spans) (is_forced_in s) s.measures
+        → IsReached (listed spans) (is_forced_in s) s.measures reached → IsNoWay s width reached spans
+    no_way_of reached form none furthest = record {
+      none_of_score = λ breaks legal. none breaks (legal_listed breaks legal);
+      furthest_of_score = record {
+        within = furthest.within;
+        legal = (furthest.legal.0, legal_to furthest.legal.0 reached furthest.within furthest.legal.1);
+        greatest = λ k other l legal. furthest.greatest k other l (legal_listed_to other k l legal);
+      };
+      form = form;
+      exact = exact;
+      none = none;
+      furthest = furthest;
     }
 
     -- their costs are the listed ones
@@ -142,3 +170,14 @@ pub least_read : (s : Score) (width : ℕ) (spans : List Span) (forced breaks : 
 least_read s width spans forced breaks total all exact chosen is =
     least_of s width spans exact breaks total
     (subst (λ these. IsChosen (listed spans) (is_forced s.measures these) s.measures breaks) all chosen) is
+
+pub cause_read : (s : Score) (width : ℕ) (spans : List Span) (forced : List ℕ) (error : BreakError)
+    → forced ≡ s.forced → AreSpans s.measures spans → AreSpansOf s width spans
+    → IsCause (listed spans) (is_forced s.measures forced) s.measures error → IsCauseIn s width (layout_error error)
+cause_read s width spans forced (BreakError.NoWay reached) all form exact h = (
+  spans,
+  no_way_of s width spans exact reached form
+      (subst (λ these. NoneLegal (listed spans) (is_forced s.measures these) s.measures) all h.0)
+      (subst (λ these. IsReached (listed spans) (is_forced s.measures these) s.measures reached) all h.1),
+)
+cause_read s width spans forced BreakError.Memory all form exact h = tt

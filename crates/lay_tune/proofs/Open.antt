@@ -23,10 +23,8 @@ use Rattle.lay_reaches.specs.Columns.{column_reach}
 use Rattle.lay_springs.specs.Place.{length_at, reach_at}
 use Rattle.lay_springs.proofs.Longer.{stand_few, stands}
 use Rattle.lay_breaks.specs.declared.costs.Span.{Span}
-use Rattle.lay_breaks.specs.declared.breaking.BreakError.{BreakError}
-use Rattle.lay_breaks.specs.Answers.{IsCause}
-use Rattle.lay_breaks.specs.Breaking.{FitsFrom, IsChosen, IsReached, NoneLegal, RisesFrom, last_from}
-use Rattle.lay_breaks.specs.Spans.{AreSpans, listed}
+use Rattle.lay_breaks.specs.Breaking.{FitsFrom, IsChosen, RisesFrom, last_from}
+use Rattle.lay_breaks.specs.Spans.{listed}
 use Rattle.lay_rows.specs.{Badness.{badness_of}, Costs.{force_in}}
 use Rattle.lay_spans.specs.declared.costs.FittingSpans.{FittingSpans}
 use Rattle.lay_spans.specs.Columns.{AreMeasures, span_columns}
@@ -36,7 +34,6 @@ use Rattle.lay_spans.proofs.Adding.{columns_some}
 use Rattle.lay_tune.proofs.StaffCounts.{count_grouped, few_groups, none_more}
 use Rattle.lay_tune.specs.Spans.{AreColumnsOf, AreSpansOf, CanStandIn, IsForceOf, column_length, score_gaps}
 use Rattle.lay_tune.specs.Spans.{system_columns, verses_of}
-use Rattle.lay_tune.specs.Layout.{IsCauseIn, layout_error}
 use Rattle.lay_tune.specs.Systems.{AllSpans, CanBeSet, gaps_between}
 
 pub some_of : (o : Option ℕ) → IsSome o → (v : ℕ) × (o ≡ Some v)
@@ -144,21 +141,6 @@ chosen_read s width starts others spans gaps forced breaks bars count is ends me
     (was_some (λ force. badness_of (b == length rows) force) (force_in rows a b)
     (subst (λ o. IsSome o) (sym (spans.same a b)) some)))
     0 breaks legal.rises legal.fits (omega arith))
-
--- if no breaking into the listed spans is legal, the score has none
-pub cause_read : (s : Score) (width : ℕ) (spans : List Span) (forced : List ℕ) (error : BreakError)
-    → forced ≡ s.forced → AreSpans s.measures spans → AreSpansOf s width spans
-    → IsCause (listed spans) (is_forced s.measures forced) s.measures error → IsCauseIn s width (layout_error error)
-cause_read s width spans forced (BreakError.NoWay reached) all form exact h = (
-  spans,
-  record {
-    form = form;
-    exact = exact;
-    none = subst (λ these. NoneLegal (listed spans) (is_forced s.measures these) s.measures) all h.0;
-    furthest = subst (λ these. IsReached (listed spans) (is_forced s.measures these) s.measures reached) all h.1;
-  },
-)
-cause_read s width spans forced BreakError.Memory all form exact h = tt
 
 -- a score has few lanes
 small_sums : (n : ℕ) (staves : List (List DrawnVoice))

@@ -14,13 +14,23 @@ pub record CanBeSystem (s : Score) (width a b : ℕ) : Type 0 where
   pub free : ForcedInside (is_forced_in s) a b → ⊥
   pub stands : (m : SystemMarks) → IsSystemOf s a b m → CanStandIn (score_gaps s) width (system_columns s m)
 
--- A legal breaking of the score on a width: a rising list of bars that ends with the last, has every forced bar, and
--- whose spans can each be a system.
-pub record IsLegalIn (s : Score) (width : ℕ) (breaks : List ℕ) : Type 0 where
+-- A legal prefix of the score on a width that ends at bar i: a rising list of bars that ends with i, has every forced
+-- bar up to i, and whose spans can each be a system. The empty list is the one that ends at 0.
+pub record IsLegalTo (s : Score) (width : ℕ) (breaks : List ℕ) (i : ℕ) : Type 0 where
   pub rises : RisesFrom 0 breaks
-  pub ends : last_from 0 breaks ≡ s.measures
-  pub every_forced : (f : ℕ) → f ≤ s.measures → is_forced_in s f ≡ true → Contains breaks f
+  pub ends : last_from 0 breaks ≡ i
+  pub every_forced : (f : ℕ) → f ≤ i → is_forced_in s f ≡ true → Contains breaks f
   pub fits : AllSpans (CanBeSystem s width) 0 breaks
+
+-- a legal breaking of the score: a legal prefix that ends with the last bar
+abbrev pub IsLegalIn : Score → ℕ → List ℕ → Type 0
+IsLegalIn s width breaks = IsLegalTo s width breaks s.measures
+
+-- the greatest bar at which a legal prefix of the score ends
+pub record IsReachedIn (s : Score) (width i : ℕ) : Type 0 where
+  pub within : i ≤ s.measures
+  pub legal : (breaks : List ℕ) × IsLegalTo s width breaks i
+  pub greatest : (k : ℕ) (other : List ℕ) → k ≤ s.measures → IsLegalTo s width other k → k ≤ i
 
 -- the total cost of the spans of a breaking, each the badness of its greatest force; the first begins at bar a
 abbrev pub CostTogether : Score → ℕ → ℕ → List ℕ → ℕ → Type 0

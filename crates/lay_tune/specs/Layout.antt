@@ -9,7 +9,7 @@ use Rattle.lay_tune.specs.declared.layout.LayoutError.{LayoutError}
 use Rattle.lay_tune.specs.Spans.{AreSpansOf, is_forced_in}
 use Rattle.lay_tune.specs.declared.layout.LayoutError.TheVariants.{NoWay, Memory}
 use Rattle.lay_tune.specs.declared.layout.Layout.{Layout}
-use Rattle.lay_tune.specs.Breakings.{IsLeastBreaking}
+use Rattle.lay_tune.specs.Breakings.{IsLeastBreaking, IsLegalIn, IsReachedIn}
 use Rattle.lay_tune.specs.Systems.{Beside, EachSpan, IsSetSystem, IsStack}
 
 -- The score laid out on a width: the listed spans are exactly those that fit, the breaking is the chosen one over
@@ -28,8 +28,11 @@ pub record IsLayout (s : Score) (width : ℕ) (l : Layout) : Type 0 where
   pub heights : Beside (IsStack s) l.systems l.heights
   pub texts : All (λ m. All (λ staff. AreGoodMarks staff.marks) m.staves) l.systems
 
--- no breaking into the spans that fit is legal; `reached` is the greatest bar at which a legal prefix ends
+-- The score has no legal breaking on the width; `reached` is the greatest bar at which a legal prefix of it ends. The
+-- same holds of the listed spans, which are exactly those that fit.
 pub record IsNoWay (s : Score) (width reached : ℕ) (spans : List Span) : Type 0 where
+  pub none_of_score : (breaks : List ℕ) → IsLegalIn s width breaks → ⊥
+  pub furthest_of_score : IsReachedIn s width reached
   pub form : AreSpans s.measures spans
   pub exact : AreSpansOf s width spans
   pub none : NoneLegal (listed spans) (is_forced_in s) s.measures

@@ -1,8 +1,8 @@
 use Rattle.std.proofs.Common.{arith, subst, sym, ◌≤◌, ℕ, None, slice_index_or}
 use Rattle.{lay_breaks.specs.{Breaking.IsPotential, Spans.{AreSpans, listed}}, lay_spans.specs.Forced.{is_forced}}
 use Rattle.lay_tune.specs.Layout.{IsCauseIn}
-use Rattle.lay_tune.proofs.Breakings.{least_read}
-use Rattle.lay_tune.proofs.Open.{cause_read, chosen_read, spans_read}
+use Rattle.lay_tune.proofs.Breakings.{cause_read, least_read}
+use Rattle.lay_tune.proofs.Open.{chosen_read, spans_read}
 use Rattle.lay_tune.proofs.layout.lay_out_measures.Goals as goal
 
 pub returns-in-Err-clause-no_way : goal.returns-in-Err-clause-no_way
