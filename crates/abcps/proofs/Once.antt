@@ -68,11 +68,11 @@ pages_once : HaveOneOutcome
 pages_once one manner even text c d a b =
     let same = one_set one manner text a.outcomes b.outcomes a.set b.set in
     same_called c d
-    (sym a.read.spelled
+    (sym a.read.spells.spelled
     ∙ ap document a.whole
     ∙ by_plan (λ p os. document (sheet_of p (paper_in text) os)) even (paper_in text) a.outcomes b.outcomes a.plan
     b.plan same a.parted b.parted
-    ∙ ap document (sym b.whole) ∙ b.read.spelled)
+    ∙ ap document (sym b.whole) ∙ b.read.spells.spelled)
     (a.reported ∙ ap reports same ∙ sym b.reported)
     (a.status ∙ ap status_of same ∙ sym b.status)
 

@@ -178,22 +178,22 @@ module _ (alone : CallsOne) (either : NeverBoth) (words : List (List ℕ)) (i o 
   not_too_long c reported text reads is read =
       too_long (limit_of c) reported text (reported_reader c reported reads is) read
 
-  not_cut : (called : Called) → NoFault i o e → WriteFailed called o e → ⊥
-  not_cut called good (inl cut) = good.output cut.0.2
-  not_cut called good (inr cut) = good.errors cut.1.2
+  not_cut : (c : Command) (called : Called) → NoFault c i o e → WriteFailed called o e → ⊥
+  not_cut c called good (inl cut) = good.output cut.0.2
+  not_cut c called good (inr cut) = good.errors cut.1.2
 
-  not_failed : (c : Command) (text : List ℕ) → NoFault i o e → FailedToWrite c text o e → ⊥
-  not_failed c text good (inl (called, calls, cut)) = not_cut called good cut
+  not_failed : (c : Command) (text : List ℕ) → NoFault c i o e → FailedToWrite c text o e → ⊥
+  not_failed c text good (inl (called, calls, cut)) = not_cut c called good cut
   not_failed c text good (inr cut) = good.output cut.1
 
   -- a command was obeyed, no fault was counted, and memory was found
   obeyed_as : (c : Command) (s : Status)
-      → IsCommandAnswer c s i o e → (reported : List ℕ) → NoFault i o e → IsReportedOn c i reported
+      → IsCommandAnswer c s i o e → (reported : List ℕ) → NoFault c i o e → IsReportedOn c i reported
       → (s ≡ Status.Memory → ⊥)
       → (s ≡ Status.Usage → ⊥)
       → IsDone c s reported o e ⊎ IsRefused c s reported o e
   obeyed_as c Status.Usage r reported good is ample listed = absurd (listed refl)
-  obeyed_as c Status.ReadFault r reported good is ample listed = absurd (good.input r.1)
+  obeyed_as c Status.ReadFault r reported good is ample listed = absurd (good.input r.0 r.2)
   obeyed_as c Status.TooLong r reported good is ample listed = absurd (not_too_long c reported r.1.0 r.0 is r.1.1)
   obeyed_as c Status.Memory r reported good is ample listed = absurd (ample refl)
   obeyed_as c Status.WriteFault (text, read, r) reported good is ample listed = absurd (not_failed c text good r)
@@ -220,8 +220,8 @@ module _ (alone : CallsOne) (either : NeverBoth) (words : List (List ℕ)) (i o 
   promised one s run = record {
     usage = (λ is. (subst (λ t. IsRunAnswer t words i o e) is run).0, usage_by s run);
     usage_line = λ is. (let r = subst (λ t. IsRunAnswer t words i o e) is run in (r.1, r.2, r.3));
-    read_fault =
-        λ is. (let r = subst (λ t. IsRunAnswer t words i o e) is run in ((r.0, r.1, r.2.0), r.2.1, r.2.2, r.2.3));
+    read_fault = λ is. (let r = subst (λ t. IsRunAnswer t words i o e) is run in
+        ((r.0, r.1, r.2.0, r.2.1), r.2.2, r.2.3, r.2.4));
     too_long =
         λ is. (let r = subst (λ t. IsRunAnswer t words i o e) is run in ((r.0, r.1, r.2.0, r.2.1), r.2.2, r.2.3));
     refused = refused_by s run;

@@ -41,6 +41,10 @@ pub record ReadAll (most : ℕ) (s : Stream) (text : List ℕ) : Type 0 where
   pub within : length text ≤ most
   pub count : s.count_after ≡ s.count_before
 
+-- at most so many bytes were taken
+abbrev pub TookAtMost : ℕ → Stream → Type 0
+TookAtMost most s = (text : List ℕ) × Consumes s.before s.after text × (length text ≤ most)
+
 -- one byte past the limit was read
 pub record ReadTooMuch (most : ℕ) (s : Stream) (text : List ℕ) : Type 0 where
   pub taken : Consumes s.before s.after text
@@ -155,7 +159,8 @@ IsAnswer c s text o e = IsAnswered (Calls c text) s o e
 
 -- the answer of a command
 abbrev pub IsCommandAnswer : Command → Status → Stream → Stream → Stream → Type 0
-IsCommandAnswer c Status.ReadFault i o e = ReadsInput c × Rose i.count_before i.count_after × IsQuiet o × IsQuiet e
+IsCommandAnswer c Status.ReadFault i o e =
+    ReadsInput c × TookAtMost (limit_of c) i × Rose i.count_before i.count_after × IsQuiet o × IsQuiet e
 IsCommandAnswer c Status.TooLong i o e =
     ReadsInput c × ((text : List ℕ) × ReadTooMuch (limit_of c) i text) × IsQuiet o × IsQuiet e
 IsCommandAnswer c Status.Memory i o e =

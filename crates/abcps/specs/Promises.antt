@@ -5,16 +5,17 @@ use Rattle.abcps_words.specs.Command.{Asks, IsListed, limit_of}
 use Rattle.abcps_words.specs.declared.command.Command.{Command}
 use Rattle.abcps_words.specs.Usage.{usage_line}
 use Rattle.abcps.specs.Outcome.{FailedToWrite, HoldsPart, Stream, IsQuiet, IsInputRead, ReadsInput, ReadTooMuch}
-use Rattle.abcps.specs.Outcome.{WroteWhole, ReportsLine}
+use Rattle.abcps.specs.Outcome.{TookAtMost, WroteWhole, ReportsLine}
 use Rattle.abcps.specs.Called.{Called}
 use Rattle.abcps.specs.Calls.{Calls, Refuses, by_one_job}
 use Rattle.abcps.specs.Refusals.{IsRefusalStatus, refusal_line, refusal_status}
 use Rattle.abcps.specs.declared.refusing.Refusal.{Refusal}
 use Rattle.abcps.specs.declared.status.Status.{Status}
 
--- no stream counted a fault; a count at its end counts as risen
-pub record NoFault (i o e : Stream) : Type 0 where
-  pub input : Rose i.count_before i.count_after → ⊥
+-- No stream counted a fault; a count at its end counts as risen. Of the input of a command that reads nothing, nothing
+-- is asked.
+pub record NoFault (c : Command) (i o e : Stream) : Type 0 where
+  pub input : ReadsInput c → Rose i.count_before i.count_after → ⊥
   pub output : Rose o.count_before o.count_after → ⊥
   pub errors : Rose e.count_before e.count_after → ⊥
 
@@ -27,7 +28,7 @@ IsReportedOn c i text = (i.before ≡ Some text) × (length text ≤ limit_of c)
 -- the words ask for this command, no fault was counted, and the input is this text
 pub record IsRunOn (c : Command) (words : List (List ℕ)) (i o e : Stream) (text : List ℕ) : Type 0 where
   pub asked : Asks words c
-  pub good : NoFault i o e
+  pub good : NoFault c i o e
   pub reported : IsReportedOn c i text
 
 -- the words ask for a command, which read this whole text, or reads none
@@ -61,9 +62,13 @@ pub record Promises (s : Status) (words : List (List ℕ)) (i o e : Stream) : Ty
   pub usage : (s ≡ Status.Usage) ↔ (IsListed words → ⊥)
   -- then nothing was read or written except the usage line, or a prefix of it if the errors sink failed
   pub usage_line : s ≡ Status.Usage → IsQuiet i × IsQuiet o × ReportsLine e usage_line
-  -- the status is a fault of the input only if a command reads and the input's count rose, and nothing is written
+  -- the status is a fault of the input only if a command reads and the input's count rose; at most the command's limit
+  -- was taken, and nothing is written
   pub read_fault : s ≡ Status.ReadFault
-      → ((c : Command) × Asks words c × ReadsInput c) × Rose i.count_before i.count_after × IsQuiet o × IsQuiet e
+      → ((c : Command) × Asks words c × ReadsInput c × TookAtMost (limit_of c) i)
+      × Rose i.count_before i.count_after
+      × IsQuiet o
+      × IsQuiet e
   -- an input is too long if one byte past the command's limit was read, and nothing is written
   pub too_long : s ≡ Status.TooLong
       → ((c : Command) × Asks words c × ReadsInput c × ((text : List ℕ) × ReadTooMuch (limit_of c) i text))
