@@ -9,13 +9,14 @@ use Rattle.abc_lines.specs.Books.{book_of}
 use Rattle.abc_fields.specs.declared.header.Header.{Header}
 use Rattle.abc_fields.specs.Defaults.{defaults_of}
 use Rattle.abc_fields.specs.Good.{IsGoodDefaults}
-use Rattle.abc_fields.specs.Headers.{HasGoodValues}
+use Rattle.abc_fields.specs.Headers.{HasGoodValues, IsGoodHeader, IsHeaderResult}
 use Rattle.abc_fields.specs.Papers.{body_height, paper_of, body_width}
+use Rattle.abc_score.specs.Build.{IsScoreResult}
 use Rattle.mus_score.specs.declared.score.Score.{Score}
 use Rattle.mus_score.specs.GoodScore.{IsGoodScore}
 use Rattle.law_transposition.proofs.Sounding.{moved_sounds_higher}
 use Rattle.mus_transpose.specs.Moved.{IsMoved}
-use Rattle.law_every_score.specs.Every.{EveryTextIsRead}
+use Rattle.law_every_score.specs.{Every.{EveryTextIsRead}, Said.{IsReadAsSaid}}
 use Rattle.law_every_layout.specs.Every.{EveryScoreIsLaid}
 use Rattle.lay_pages.specs.Filling.{first_tall}
 use Rattle.lay_pages.specs.Titles.{title_block_of}
@@ -32,7 +33,7 @@ use Rattle.law_every_outcome.proofs.Defaults.{defaults_good}
 use Rattle.law_every_outcome.proofs.Draws.{has_drawn}
 use Rattle.law_every_outcome.proofs.Moves.{has_moved}
 
-module _ (every_text : EveryTextIsRead) (every_score : EveryScoreIsLaid) where
+module _ (every_text : EveryTextIsRead) (every_score : EveryScoreIsLaid) (said : IsReadAsSaid) where
   module _ (tune : TuneText) (terms : Terms) where
     abbrev HasResult : Type 0
     HasResult = (r : Result SetTune Fault) × IsResult tune terms r
@@ -100,18 +101,22 @@ module _ (every_text : EveryTextIsRead) (every_score : EveryScoreIsLaid) where
           let m = has_moved score header.key terms.manner.by good in moves score drawn m.0 m.1 m.2
 
     writes : (header : Header) → HasHeader tune terms.defaults header → HasGoodValues header → HasResult
-    writes header has good = elim (every_text.score header tune terms.manner.flow good) [
-      | inl f ↦ faulty f.0 (of_score header f.0 has f.1)
-      | inr s ↦
-          (let d = has_drawn header.staves s.0 s.2 in
-          draws header s.0 (record { read = has; value = s.1; good = s.2 }) d.0 d.1 d.2)
-    ]
+    writes header has good = let s = every_text.score header tune terms.manner.flow good in written s.0.0 s.0.1 s.1
+      where
+        written : (r : Result Score Fault)
+            → IsScoreResult header tune terms.manner.flow r → IfOk r (λ s. IsGoodScore s) → HasResult
+        written (Err f) fault fine = faulty f (of_score header f has fault)
+        written (Ok s) is fine =
+            let d = has_drawn header.staves s fine in
+            draws header s (record { read = has; value = is; good = fine }) d.0 d.1 d.2
 
     has_result : IsGoodDefaults terms.defaults → HasResult
-    has_result good = elim (every_text.header tune terms.defaults good) [
-      | inl f ↦ faulty f.0 (of_header f.0 f.1)
-      | inr h ↦ writes h.0 (record { value = h.1; clear = h.2 }) h.3.0
-    ]
+    has_result good = let h = every_text.header tune terms.defaults good in headed h.0.0 h.0.1 h.1
+      where
+        headed : (r : Result Header Fault)
+            → IsHeaderResult tune terms.defaults r → IfOk r (λ h. IsGoodHeader tune h) → HasResult
+        headed (Err f) fault fine = faulty f (of_header f fault)
+        headed (Ok header) is fine = writes header (record { value = is.0; clear = is.1 }) fine.0
 
     has_outcome : IsGoodDefaults terms.defaults → (o : Outcome) × IsOutcome terms tune o
     has_outcome good =
@@ -132,4 +137,5 @@ module _ (every_text : EveryTextIsRead) (every_score : EveryScoreIsLaid) where
     book = λ text manner.
         has_outcomes (terms_by (defaults_of (book_of text).header) (paper_of (book_of text).header) manner)
         (book_of text).tunes (defaults_good (book_of text).header);
+    said = said;
   }

@@ -6,6 +6,7 @@ use Rattle.abc_lines.specs.Books.{book_of}
 use Rattle.abc_fields.specs.Defaults.{defaults_of}
 use Rattle.abc_fields.specs.Good.{IsGoodDefaults}
 use Rattle.abc_fields.specs.Papers.{paper_of}
+use Rattle.law_every_score.specs.Said.{IsReadAsSaid}
 use Rattle.set_tune.specs.Terms.{Manner, Terms, terms_by}
 use Rattle.set_book.specs.{declared.outcome.Outcome.Outcome, Outcomes.{AreOutcomes, IsOutcome}}
 
@@ -17,3 +18,5 @@ pub record EveryTuneHasAnOutcome : Type 0 where
       → (os : List Outcome)
       × AreOutcomes (terms_by (defaults_of (book_of text).header) (paper_of (book_of text).header) manner)
       (book_of text).tunes os
+  -- and what is read of their lines, by which the outcomes are defined, is exactly what the lines say
+  pub said : IsReadAsSaid

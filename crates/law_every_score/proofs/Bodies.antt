@@ -1,16 +1,17 @@
--- The lines of a body have a first fault, or else they are a body whose items are good.
+-- The lines of a body have one list of good items, or one first fault.
 use Rattle.std.proofs.Common.{◌≡◌, refl, sym, subst, ℕ, ◌*◌, ◌^◌, ◌≤◌, ◌⊎◌, inl, inr, List, [], ◌∷◌, ◌++◌, length, Bool}
 use Rattle.std.proofs.Common.{true, false, All, Option, Some, None, flat_map, option_map, arith}
 use Rattle.std.proofs.lemmas.List.Elements.{All-nil, All-cons}
 use Rattle.std.proofs.lemmas.Nat.{mul-le}
 use Rattle.std.proofs.Math.Seq.{take-length}
-use Rattle.std.specs.Prelude.{⊤, Result, Ok, Err}
+use Rattle.std.specs.Prelude.{⊤, IfOk, Result, Ok, Err}
 use Rattle.mus_units.specs.declared.note.Head.{Head}
 use Rattle.abc_lines.specs.declared.book.Line.{Line}
 use Rattle.abc_lines.specs.declared.fault.Fault.{Fault}
 use Rattle.abc_lines.specs.declared.fault.FaultKind.{FaultKind}
 use Rattle.abc_lines.specs.declared.kind.LineKind.{LineKind}
 use Rattle.abc_lines.specs.Kinds.{kind_of}
+use Rattle.abc_lines.specs.Results.{HasOneResult}
 use Rattle.abc_notes.specs.declared.part.Len.{Len}
 use Rattle.abc_pieces.specs.declared.token.PieceBefore.{PieceBefore}
 use Rattle.abc_pieces.specs.declared.token.Token.{Token}
@@ -30,6 +31,8 @@ use Rattle.abc_items.specs.{Good.IsGoodItem, Voices.declared_ids}
 use Rattle.abc_items.specs.Body.{ItemOrFault, gives, fails, item_of_field, chord_sound, sound, first_len, is_on}
 use Rattle.abc_items.specs.Body.{cut_given, item_of_token, placed_given, item_of_line_end, KindGives, BodyGives}
 use Rattle.abc_items.specs.Body.{no_lines, one_line, judged_items, first_item_fault, items_in, IsBody, HasFault}
+use Rattle.abc_items.specs.Body.{IsBodyResult}
+use Rattle.abc_items.proofs.OneBody.{one_body}
 use Rattle.law_every_score.proofs.GoodFields.{GoodRead, field_good, named_good}
 
 -- ---- the items given are good
@@ -161,7 +164,14 @@ body_by h lines given (Some fault) so good e =
 body_by h lines given None so good e =
     inr (items_in given, record { given = given; gives_so = so; clear = e; are = refl }, items_good given good)
 
-pub has_body : (h : Header) (lines : List Line) → HasBody h lines
-has_body h lines =
+body_or_fault : (h : Header) (lines : List Line) → HasBody h lines
+body_or_fault h lines =
     let all = has_given h.breaks lines in
     body_by h lines all.0 (first_item_fault (judged_items (declared_ids h) all.0)) all.1 all.2 refl
+
+pub has_body : (h : Header) (lines : List Line)
+    → (one : HasOneResult (IsBodyResult h lines)) × IfOk one.0 (λ items. All IsGoodItem items)
+has_body h lines = elim (body_or_fault h lines) [
+  | inl f ↦ ((Err f.0, f.1, one_body h lines (Err f.0) f.1), tt)
+  | inr b ↦ ((Ok b.0, b.1, one_body h lines (Ok b.0) b.1), b.2)
+]

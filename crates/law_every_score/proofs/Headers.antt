@@ -1,10 +1,11 @@
--- A tune's header has a first fault, or it is read and has good values.
+-- A tune has one header, whose values are good, or one first fault of its header.
 use Rattle.std.proofs.Common.{◌≡◌, refl, ℕ, ◌+◌, ◌*◌, ◌≤◌, ◌⊎◌, inl, inr, List, [], ◌∷◌, Bool, true, false, length}
 use Rattle.std.proofs.Common.{arith}
 use Rattle.std.proofs.lemmas.Bool.{cond_both}
 use Rattle.std.proofs.lemmas.Bool.Decides.{nat_tests}
 use Rattle.std.proofs.lemmas.List.Quantifiers.{position-Some}
-use Rattle.std.specs.Prelude.{Option, Some, None, IfSome, Result, Ok, Err, fold, nat_lt, unwrap_or, if◌then◌else◌}
+use Rattle.std.specs.Prelude.{Option, Some, None, IfSome, IfOk, Result, Ok, Err, fold, nat_lt, unwrap_or}
+use Rattle.std.specs.Prelude.{if◌then◌else◌}
 use Rattle.std.specs.Option.{option_or}
 use Rattle.mus_units.specs.declared.key.Key.{Key}
 use Rattle.mus_units.specs.declared.key.Meter.{Meter}
@@ -16,6 +17,7 @@ use Rattle.abc_lines.specs.declared.book.Line.{Line}
 use Rattle.abc_lines.specs.declared.book.TuneText.{TuneText}
 use Rattle.abc_lines.specs.declared.fault.Fault.{Fault}
 use Rattle.abc_lines.specs.declared.fault.FaultKind.{FaultKind}
+use Rattle.abc_lines.specs.Results.{HasOneResult}
 use Rattle.law_every_score.proofs.GoodFields.{GoodRead, field_good}
 use Rattle.abc_field.specs.declared.field.Field.{Field}
 use Rattle.abc_field.specs.declared.key.KeyText.{KeyText}
@@ -32,7 +34,9 @@ use Rattle.abc_fields.proofs.HeaderLaws.{last_key-good, last_meter-good, last_un
 use Rattle.abc_fields.specs.Headers.{is_key_line, key_place, key_in, meter_in, unit_in, key_signs, unit_by, meter_from}
 use Rattle.abc_fields.specs.Headers.{staves_from, header_of, put_field, fields_of, line_fault, field_fault, ids_with}
 use Rattle.abc_fields.specs.Headers.{first_fault, head_lines, first_line_number, no_key, fault_by, header_fault}
-use Rattle.abc_fields.specs.Headers.{IsHeaderBy, IsHeaderOf, AreGoodFields, HasGoodValues, IsGoodHeader}
+use Rattle.abc_fields.specs.Headers.{IsHeaderBy, IsHeaderOf, IsHeaderResult, AreGoodFields, HasGoodValues}
+use Rattle.abc_fields.specs.Headers.{IsGoodHeader}
+use Rattle.abc_fields.proofs.OneHeader.{one_header}
 
 put_good : (read : Result Field FaultKind) (fs : List Field)
     → GoodRead read → AreGoodFields fs → AreGoodFields (put_field read fs)
@@ -128,8 +132,15 @@ by_place tune defaults (Some place) good at = by_fault (first_fault [] (head_lin
         (few_ids lines [] (omega arith) e) in
         inr (header_of (fields_of lines) defaults staves (place + 1), refl, e, (values, omega (arith, within)))
 
-pub has_header : (tune : TuneText) (defaults : Defaults) → IsGoodDefaults defaults
+header_or_fault : (tune : TuneText) (defaults : Defaults) → IsGoodDefaults defaults
     → ((f : Fault) × (header_fault tune ≡ Some f))
     ⊎ ((h : Header) × IsHeaderOf tune defaults h × (header_fault tune ≡ None) × IsGoodHeader tune h)
 unfolding header_fault IsHeaderOf
-has_header tune defaults good = by_place tune defaults (key_place tune.lines) good refl
+header_or_fault tune defaults good = by_place tune defaults (key_place tune.lines) good refl
+
+pub has_header : (tune : TuneText) (defaults : Defaults) → IsGoodDefaults defaults
+    → (one : HasOneResult (IsHeaderResult tune defaults)) × IfOk one.0 (λ h. IsGoodHeader tune h)
+has_header tune defaults good = elim (header_or_fault tune defaults good) [
+  | inl f ↦ ((Err f.0, f.1, one_header tune defaults (Err f.0) f.1), tt)
+  | inr h ↦ ((Ok h.0, (h.1, h.2), one_header tune defaults (Ok h.0) (h.1, h.2)), h.3)
+]

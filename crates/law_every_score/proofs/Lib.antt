@@ -2,3 +2,4 @@ mod Bodies
 mod GoodFields
 mod Headers
 mod Scores
+mod Said
