@@ -35,7 +35,8 @@ module _ (h : Header) (tune : TuneText) (flow : Bool) (good : HasGoodValues h) w
       → IsBody h (body_lines h tune) items → All IsGoodItem items → (o : Option Fault)
       → IsFirstInOrder (score_faults h items) o
       → HasScore
-  score_by items body given (Some f) first = only (Err f) (inr (record { items = items; body = body; first = first })) tt
+  score_by items body given (Some f) first =
+      only (Err f) (inr (record { items = items; body = body; first = first })) tt
   score_by items body given None clear =
       only (Ok (score_of h items flow)) (record { items = items; body = body; clear = clear; value = refl })
       (good_score h items flow good given (few_ids h (body_lines h tune) items good body) clear)

@@ -195,7 +195,7 @@ pub fn staff_heights(marks: &[Laid]) -> HeightRange
 {
     let mut so_far = HeightRange {
         low: 0,
-        high: TOP_LINE,
+        high: i64::from(TOP_LINE),
     };
     for laid in marks {
         so_far = widened(so_far, heights_of(&laid.mark));
