@@ -3,9 +3,9 @@
 
 usage: tools/check.py [PROGRAM]      (the program that the gate or the launcher built if none is given)
 
-It runs every case of the tests, with the stored runs of every command, by the built program of tests, and prints each
-line that differs from crates/all_tests/stdout. Then it runs the checks that follow the gate: the length of lines, the
-list of promises, the documents and the scripts. It ends with 1 if something is wrong.
+It runs every case of the tests, with the stored runs of every command, by the built program of tests, which prints each
+case that doesn't hold with what is expected and what came. Then it runs the checks that follow the gate: the length of
+lines, the list of promises, the documents and the scripts. It ends with 1 if something is wrong.
 
 It proves nothing. Only the gate says that the crates are proved, that the must-fail edits are refused, and that both
 compilers build programs that write the same.
@@ -31,16 +31,15 @@ def newest(folder, endings):
     return max(times)
 
 
-def differing_lines():
-    """Runs the cases in a folder of their own, and returns the lines that differ from what is expected."""
+def run_cases():
+    """Runs the cases in a folder of their own, and returns whether all hold and what the program of tests prints."""
     with tempfile.TemporaryDirectory() as folder:
         shutil.copytree(f"{TESTS}/data", folder, dirs_exist_ok=True)
         ran = subprocess.run([f"{TESTS}/out/all_tests"], cwd=folder, stdin=subprocess.DEVNULL, capture_output=True)
     with open(f"{TESTS}/stdout", "rb") as it:
-        expected = it.read().decode(errors="replace").splitlines()
-    found = ran.stdout.decode(errors="replace").splitlines()
-    lines = list(difflib.unified_diff(expected, found, "expected", "found", n=2, lineterm=""))
-    return len(expected), lines + ([f"the program of tests ended with {ran.returncode}"] if ran.returncode else [])
+        expected = it.read().decode()
+    found = ran.stdout.decode(errors="replace")
+    return ran.returncode == 0, found, expected
 
 
 def check_cases():
@@ -49,9 +48,16 @@ def check_cases():
         return False
     if newest(f"{ROOT}/crates", (".rt", ".antt")) > os.path.getmtime(f"{TESTS}/out/all_tests"):
         print("cases: the program of tests is older than its sources")
-    count, lines = differing_lines()
-    print("\n".join(lines) if lines else f"cases: {count} lines as expected")
-    return not lines
+    good, found, expected = run_cases()
+    if not good:
+        print(found, end="")
+        print("cases: some don't hold, as shown above")
+    elif found != expected:
+        print("\n".join(difflib.unified_diff(expected.split("\n"), found.split("\n"), "stdout", "found", lineterm="")))
+        print("cases: all hold, but crates/all_tests/stdout has other numbers")
+    else:
+        print("cases: " + found.strip().split("\n")[-1])
+    return good and found == expected
 
 
 def check_script(name, *words):

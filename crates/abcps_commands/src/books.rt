@@ -1,19 +1,21 @@
-//! Books in the folder, each with its expected output in a file beside it: the pages after the prolog that `set`
-//! writes, the table of `systems --table`, and the faults.
+//! Books in the folder, each with a file of its expected output: the pages after the prolog that `set` writes, the
+//! table of `systems --table`, and the faults; and books whose output stands in their cases.
 
-use crate::case::{Expected, RunCase, verdict, words_of};
-use crate::files::{read_file, read_table};
+use crate::case::{Expected, RunCase, put_file, words_of};
+use crate::files::read_file;
 use crate::running::{Finished, Host, PIECE, Streams, ran};
 use abcps::Status;
-use std::io;
+use case_texts::{CaseError, Report};
+use mus_units::{Memory, Text};
+use std::alloc::Global;
 
 /// The line that ends the part of a document that is the same for every book.
 const END_OF_PROLOG: &[u8] = b"%%EndProlog\n";
 
 /// Runs the words on a book.
-fn ran_on<R: Host>(rt: &R, words: &str, book: &[u8]) -> io::Result<Finished> {
+fn ran_on<R: Host>(rt: &R, words: &str, book: &[u8]) -> Result<Finished, CaseError> {
     let alloc = rt.alloc();
-    let told = Expected {
+    let expected = Expected {
         status: 0,
         output: Vec::new(alloc),
         errors: Vec::new(alloc),
@@ -21,9 +23,9 @@ fn ran_on<R: Host>(rt: &R, words: &str, book: &[u8]) -> io::Result<Finished> {
     let case = RunCase {
         words: words_of(alloc, words)?,
         input: Vec::from_slice(alloc, book)?,
-        told,
+        expected,
     };
-    ran(rt, &case, &Streams::sound(PIECE))
+    Ok(ran(rt, &case, &Streams::sound(PIECE))?)
 }
 
 /// Returns the part of a document after its prolog.
@@ -37,12 +39,12 @@ fn past_prolog(document: &[u8]) -> &[u8] {
     &[]
 }
 
-/// Returns whether a text is three others, one after another.
-fn is_joined(text: &[u8], first: &[u8], second: &[u8], third: &[u8]) -> bool {
-    let Some(rest) = text.strip_prefix(first) else {
-        return false;
-    };
-    rest.strip_prefix(second) == Some(third)
+/// Returns three texts, one after another.
+fn joined(alloc: Global, first: &[u8], second: &[u8], third: &[u8]) -> Result<Text, Memory> {
+    let mut text = Text::from_slice(alloc, first)?;
+    text.append(second)?;
+    text.append(third)?;
+    Ok(text)
 }
 
 /// Returns whether both runs have the status that the reported faults call for.
@@ -55,33 +57,38 @@ fn have_status(set: &Finished, systems: &Finished) -> bool {
     set.status == status && systems.status == status
 }
 
-/// Returns whether the output for a book is as expected: its pages, its listing and its faults.
-fn writes_what_is_told<R: Host>(rt: &R, book: &[u8], told: &[u8]) -> io::Result<bool> {
-    let set = ran_on(rt, "set", book)?;
-    let systems = ran_on(rt, "systems --table", book)?;
+/// Adds the name of a file if a book's output is what it has, or else how they differ; and a line for runs whose
+/// status or faults don't fit.
+pub(crate) fn put_book<R: Host>(
+    rt: &R,
+    out: &mut Report,
+    name: &str,
+    expected: &str,
+) -> Result<(), CaseError> {
+    let book = read_file(rt, name)?;
+    let set = ran_on(rt, "set", &book)?;
+    let systems = ran_on(rt, "systems --table", &book)?;
+    let faults = set.errors.taken();
     let pages = past_prolog(set.output.taken());
-    let table = systems.output.taken();
-    Ok(
-        have_status(&set, &systems)
-            && set.errors.taken() == systems.errors.taken()
-            && is_joined(told, pages, table, set.errors.taken()),
+    let text = joined(rt.alloc(), pages, systems.output.taken(), faults)?;
+    put_file(out, expected, &read_file(rt, expected)?, text.as_slice())?;
+    out.flag(!have_status(&set, &systems), b"with another status")?;
+    out.flag(
+        faults != systems.errors.taken(),
+        b"with other faults of systems",
     )
 }
 
-/// Returns whether a book is written as the file beside it says.
-fn is_as_told<R: Host>(rt: &R, name: &str) -> io::Result<bool> {
-    let alloc = rt.alloc();
-    let book = read_file(rt, &format!(in alloc; "{name}.abc")?)?;
-    let told = read_file(rt, &format!(in alloc; "{name}.out")?)?;
-    writes_what_is_told(rt, &book, &told)
-}
-
-/// Reports each book that the table `books` names.
-pub(crate) fn tell_books<R: Host>(rt: &R) -> io::Result<()> {
-    let table = read_table(rt, "books")?;
-    for name in table.lines() {
-        let verdict = verdict(is_as_told(rt, name)?);
-        println!(rt; "{name}: {verdict}")?;
-    }
-    Ok(())
+/// Adds the status of words on a book, what they write, and the faults that they report.
+pub(crate) fn put_shown<R: Host>(
+    rt: &R,
+    out: &mut Report,
+    words: &str,
+    book: &[u8],
+) -> Result<(), CaseError> {
+    let finished = ran_on(rt, words, book)?;
+    out.next_number(b"status ", finished.status.number())?;
+    out.end_line()?;
+    out.append(finished.output.taken())?;
+    out.append(finished.errors.taken())
 }

@@ -1,18 +1,16 @@
-//! Cases, as read from the lines of a table.
+//! Runs, as their cases say them: the words of a run and its input, and the status and the written bytes that are
+//! expected of it.
 //!
-//! A line has the case's name, its words, its input, the number of its status, its output and its errors, separated
-//! by `; `. Words are a space apart. Input, output and errors are names of files, or `-` for nothing; an input may
-//! also be generated, as `50000 rests`.
+//! The words stand after the case's call, `-` for none. The input is the name of a file, or nothing, or it is
+//! generated, as `50000 rests`. The value of a run has a line `status` with its number, and for each sink that was
+//! written on a line `output` or `errors` with the name of the file that has the same bytes.
 
 use crate::files::read_file;
 use crate::made::made;
 use crate::running::{Finished, Host, Stream};
 use abcps::Status;
+use case_texts::{Case, CaseError, Mistake, Report, number_of};
 use std::alloc::{AllocError, Global};
-use std::io;
-
-/// The field that denotes nothing.
-const NOTHING: &str = "-";
 
 /// The expected status and output of a run.
 #[derive(Drop)]
@@ -27,7 +25,7 @@ pub(crate) struct Expected {
 pub(crate) struct RunCase {
     pub(crate) words: Vec<String>,
     pub(crate) input: Vec<u8>,
-    pub(crate) told: Expected,
+    pub(crate) expected: Expected,
 }
 
 /// Returns whether a text was cut off: whether what was taken of it is a prefix that isn't all of it.
@@ -69,18 +67,18 @@ impl Expected {
 
 impl RunCase {
     /// Returns whether a run over streams that didn't fail is as expected.
-    pub(crate) fn is_told(&self, finished: &Finished) -> bool {
-        finished.status.number() == self.told.status
-            && finished.output.taken() == self.told.output.as_slice()
-            && finished.errors.taken() == self.told.errors.as_slice()
+    pub(crate) fn is_met(&self, finished: &Finished) -> bool {
+        finished.status.number() == self.expected.status
+            && finished.output.taken() == self.expected.output.as_slice()
+            && finished.errors.taken() == self.expected.errors.as_slice()
     }
 
     /// Returns whether a run is as expected if one of its streams failed.
-    pub(crate) fn is_told_after(&self, stream: Stream, finished: &Finished) -> bool {
+    pub(crate) fn is_met_after(&self, stream: Stream, finished: &Finished) -> bool {
         match stream {
-            Stream::Input => self.told.is_after_input(finished),
-            Stream::Output => self.told.is_after_output(finished),
-            Stream::Errors => self.told.is_after_errors(finished),
+            Stream::Input => self.expected.is_after_input(finished),
+            Stream::Output => self.expected.is_after_output(finished),
+            Stream::Errors => self.expected.is_after_errors(finished),
         }
     }
 
@@ -88,82 +86,146 @@ impl RunCase {
     pub(crate) fn writes_on(&self, stream: Stream) -> bool {
         match stream {
             Stream::Input => false,
-            Stream::Output => !self.told.output.is_empty(),
-            Stream::Errors => !self.told.errors.is_empty(),
+            Stream::Output => !self.expected.output.is_empty(),
+            Stream::Errors => !self.expected.errors.is_empty(),
         }
     }
 }
 
-/// Returns the first field of a line, and the fields after it.
-fn next_field(line: &str) -> io::Result<(&str, &str)> {
-    line.split_once("; ")
-        .ok_or(io::Error::other("a field is wanting"))
-}
-
-/// Returns the words of a field, a space apart.
-pub(crate) fn words_of(alloc: Global, field: &str) -> Result<Vec<String>, AllocError> {
+/// Returns words, a space apart; `-` stands for none.
+pub(crate) fn words_of(alloc: Global, text: &str) -> Result<Vec<String>, AllocError> {
     let mut words = Vec::new(alloc);
-    if field != NOTHING {
-        for word in field.split(' ') {
+    if text != "-" {
+        for word in text.split(' ') {
             words.push(String::from_str(alloc, word)?)?;
         }
     }
     Ok(words)
 }
 
-/// Returns the text that a field names.
-fn text_of<R: Host>(rt: &R, field: &str) -> io::Result<Vec<u8>> {
-    if field == NOTHING {
-        Ok(Vec::new(rt.alloc()))
-    } else {
-        read_file(rt, field)
-    }
-}
-
-/// Returns the input that a field names or says how to generate.
-fn input_of<R: Host>(rt: &R, field: &str) -> io::Result<Vec<u8>> {
-    match field.split_once(' ') {
+/// Returns the input that a text names or says how to generate; no text says that it is empty.
+fn input_of<R: Host>(rt: &R, text: &str) -> Result<Vec<u8>, CaseError> {
+    match text.split_once(' ') {
         Some((count, what)) => made(rt.alloc(), count, what),
-        None => text_of(rt, field),
+        None if text.is_empty() => Ok(Vec::new(rt.alloc())),
+        None => read_file(rt, text),
     }
 }
 
-fn status_of(field: &str) -> io::Result<u8> {
-    match field.parse::<u8>() {
-        Ok(status) => Ok(status),
-        Err(_) => Err(io::Error::other("a status is no number")),
+/// Returns the rest of the line of an expected value that begins with a word, if there is one.
+fn line_of<'a>(expected: &'a str, word: &str) -> Option<&'a str> {
+    for line in expected.lines() {
+        if let Some((first, rest)) = line.split_once(' ') {
+            if first == word {
+                return Some(rest);
+            }
+        }
+    }
+    None
+}
+
+/// Returns the bytes of the file that a line of an expected value names, or no byte without such a line.
+fn bytes_of<R: Host>(rt: &R, expected: &str, word: &str) -> Result<Vec<u8>, CaseError> {
+    match line_of(expected, word) {
+        Some(name) => read_file(rt, name),
+        None => Ok(Vec::new(rt.alloc())),
     }
 }
 
-/// Returns the result that fields say is expected.
-fn told_of<R: Host>(rt: &R, fields: &str) -> io::Result<Expected> {
-    let (status, fields) = next_field(fields)?;
-    let (output, errors) = next_field(fields)?;
+/// Returns the result of a run that an expected value says.
+fn expected_of<R: Host>(rt: &R, expected: &str) -> Result<Expected, CaseError> {
+    let status = line_of(expected, "status").ok_or(CaseError::Wrong(Mistake::NoStatus))?;
     Ok(Expected {
-        status: status_of(status)?,
-        output: text_of(rt, output)?,
-        errors: text_of(rt, errors)?,
+        status: number_of::<u8>(status)?,
+        output: bytes_of(rt, expected, "output")?,
+        errors: bytes_of(rt, expected, "errors")?,
     })
 }
 
-/// Returns the case that the fields after its name say.
-fn case_of<R: Host>(rt: &R, fields: &str) -> io::Result<RunCase> {
-    let (words, fields) = next_field(fields)?;
-    let (input, fields) = next_field(fields)?;
+/// Returns the run that a case says.
+pub(crate) fn run_of<R: Host>(rt: &R, case: Case<'_>) -> Result<RunCase, CaseError> {
     Ok(RunCase {
-        words: words_of(rt.alloc(), words)?,
-        input: input_of(rt, input)?,
-        told: told_of(rt, fields)?,
+        words: words_of(rt.alloc(), case.word)?,
+        input: input_of(rt, case.input)?,
+        expected: expected_of(rt, case.expected)?,
     })
 }
 
-/// Returns the name on a line of a table, and the case that it names.
-pub(crate) fn named_case<'a, R: Host>(rt: &R, line: &'a str) -> io::Result<(&'a str, RunCase)> {
-    let (name, fields) = next_field(line)?;
-    Ok((name, case_of(rt, fields)?))
+/// Adds a line with the status of a run, and one for each sink that was written on, with the name of the file that is
+/// expected there.
+pub(crate) fn put_run(
+    out: &mut Report,
+    case: Case<'_>,
+    run: &RunCase,
+    finished: &Finished,
+) -> Result<(), CaseError> {
+    out.next_number(b"status ", finished.status.number())?;
+    let output = line_of(case.expected, "output");
+    put_sink(
+        out,
+        b"output ",
+        output,
+        &run.expected.output,
+        finished.output.taken(),
+    )?;
+    let errors = line_of(case.expected, "errors");
+    put_sink(
+        out,
+        b"errors ",
+        errors,
+        &run.expected.errors,
+        finished.errors.taken(),
+    )
 }
 
-/// Returns the words that report whether a case is as expected.
-pub(crate) fn verdict(is_told: bool) -> &'static str {
-    if is_told { "as told" } else { "other" }
+/// Adds a line of a sink with the name of the file that is expected there, if the sink was written on.
+fn put_sink(
+    out: &mut Report,
+    sink: &[u8],
+    name: Option<&str>,
+    expected: &[u8],
+    came: &[u8],
+) -> Result<(), CaseError> {
+    if came.is_empty() {
+        return Ok(());
+    }
+    out.line(sink)?;
+    put_file(out, name.unwrap_or("no file"), expected, came)
+}
+
+/// Adds the name of a file if bytes are the same as it has, and else how they differ first.
+pub(crate) fn put_file(
+    out: &mut Report,
+    name: &str,
+    expected: &[u8],
+    came: &[u8],
+) -> Result<(), CaseError> {
+    if expected == came {
+        return out.append(name.as_bytes());
+    }
+    let mut line: u32 = 1;
+    let mut rest = expected.split(|byte| *byte == b'\n');
+    for found in came.split(|byte| *byte == b'\n') {
+        let wanted = rest.next();
+        if wanted != Some(found) {
+            return put_line(out, name, line, wanted, found);
+        }
+        line = line.saturating_add(1);
+    }
+    out.show(format_args!("unlike {name}, which goes on after that"))
+}
+
+/// Adds that a line differs from the line of a file.
+fn put_line(
+    out: &mut Report,
+    name: &str,
+    line: u32,
+    wanted: Option<&[u8]>,
+    found: &[u8],
+) -> Result<(), CaseError> {
+    out.show(format_args!("unlike {name}, whose line {line} is <"))?;
+    out.append(wanted.unwrap_or(b"missing".as_slice()))?;
+    out.append(b">, and which came as <")?;
+    out.append(found)?;
+    out.push(b'>')
 }

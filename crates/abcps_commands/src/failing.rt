@@ -1,79 +1,80 @@
 //! Runs over streams that fail.
 
-use crate::case::{RunCase, verdict};
+use crate::case::RunCase;
 use crate::running::{Host, PIECE, Stream, Streams, ran};
-use std::io;
+use case_texts::{CaseError, Report};
+use std::alloc::AllocError;
 
 /// Returns whether a run over streams is as expected.
-pub(crate) fn is_told<R: Host>(rt: &R, case: &RunCase, streams: &Streams) -> io::Result<bool> {
+pub(crate) fn is_met<R: Host>(
+    rt: &R,
+    case: &RunCase,
+    streams: &Streams,
+) -> Result<bool, AllocError> {
     let finished = ran(rt, case, streams)?;
-    Ok(case.is_told(&finished))
+    Ok(case.is_met(&finished))
 }
 
 /// Returns whether a run over streams of which one fails is as expected.
-fn is_told_after<R: Host>(
+fn is_met_after<R: Host>(
     rt: &R,
     case: &RunCase,
     stream: Stream,
     streams: &Streams,
-) -> io::Result<bool> {
+) -> Result<bool, AllocError> {
     let finished = ran(rt, case, streams)?;
-    Ok(case.is_told_after(stream, &finished))
+    Ok(case.is_met_after(stream, &finished))
 }
 
 /// Returns whether a run is as expected with each of the calls of a stream failing in turn, and with the call after
 /// the last, which is never made.
-fn fails_as_told<R: Host>(rt: &R, case: &RunCase, stream: Stream, calls: u64) -> io::Result<bool> {
+fn fails_as_expected<R: Host>(
+    rt: &R,
+    case: &RunCase,
+    stream: Stream,
+    calls: u64,
+) -> Result<bool, AllocError> {
     for call in 0..calls {
-        if !is_told_after(rt, case, stream, &Streams::failing_at(stream, call))? {
+        if !is_met_after(rt, case, stream, &Streams::failing_at(stream, call))? {
             return Ok(false);
         }
     }
-    is_told(rt, case, &Streams::failing_at(stream, calls))
+    is_met(rt, case, &Streams::failing_at(stream, calls))
 }
 
 /// Returns whether a run is as expected with a sink that takes no byte.
-fn takes_none_as_told<R: Host>(rt: &R, case: &RunCase, stream: Stream) -> io::Result<bool> {
+fn takes_none_as_expected<R: Host>(
+    rt: &R,
+    case: &RunCase,
+    stream: Stream,
+) -> Result<bool, AllocError> {
     let streams = Streams::taking_none(stream);
     if case.writes_on(stream) {
-        is_told_after(rt, case, stream, &streams)
+        is_met_after(rt, case, stream, &streams)
     } else {
-        is_told(rt, case, &streams)
+        is_met(rt, case, &streams)
     }
 }
 
 /// Returns whether a run is as expected with sinks that take a byte in each call, and with each sink taking none.
-fn trickles_as_told<R: Host>(rt: &R, case: &RunCase) -> io::Result<bool> {
+fn trickles_as_expected<R: Host>(rt: &R, case: &RunCase) -> Result<bool, AllocError> {
     Ok(
-        is_told(rt, case, &Streams::sound(1))?
-            && takes_none_as_told(rt, case, Stream::Output)?
-            && takes_none_as_told(rt, case, Stream::Errors)?,
+        is_met(rt, case, &Streams::sound(1))?
+            && takes_none_as_expected(rt, case, Stream::Output)?
+            && takes_none_as_expected(rt, case, Stream::Errors)?,
     )
 }
 
-fn calls_named(stream: Stream) -> &'static str {
+fn calls_named(stream: Stream) -> &'static [u8] {
     match stream {
-        Stream::Input => "reads",
-        Stream::Output => "writes of output",
-        Stream::Errors => "writes of errors",
+        Stream::Input => b"reads failing in turn ",
+        Stream::Output => b"writes of output failing in turn ",
+        Stream::Errors => b"writes of errors failing in turn ",
     }
 }
 
-/// Reports whether a case is as expected with each call of a stream failing.
-fn tell_stream<R: Host>(
-    rt: &R,
-    name: &str,
-    case: &RunCase,
-    stream: Stream,
-    calls: u64,
-) -> io::Result<()> {
-    let verdict = verdict(fails_as_told(rt, case, stream, calls)?);
-    let what = calls_named(stream);
-    println!(rt; "{name}, {what} failing in turn ({calls}): {verdict}")
-}
-
 /// Returns how often a run over sound streams calls each of them.
-fn calls_of<R: Host>(rt: &R, case: &RunCase) -> io::Result<[u64; 3]> {
+fn calls_of<R: Host>(rt: &R, case: &RunCase) -> Result<[u64; 3], AllocError> {
     let sound = ran(rt, case, &Streams::sound(PIECE))?;
     Ok([
         sound.calls(Stream::Input),
@@ -82,12 +83,31 @@ fn calls_of<R: Host>(rt: &R, case: &RunCase) -> io::Result<[u64; 3]> {
     ])
 }
 
-/// Reports whether a case is as expected over streams that fail.
-pub(crate) fn tell_failures<R: Host>(rt: &R, name: &str, case: &RunCase) -> io::Result<()> {
+/// Adds a line with the number of a stream's calls, which fail in turn, and that a run isn't as expected if one isn't.
+fn put_stream<R: Host>(
+    rt: &R,
+    out: &mut Report,
+    case: &RunCase,
+    stream: Stream,
+    calls: u64,
+) -> Result<(), CaseError> {
+    out.line_number(calls_named(stream), calls)?;
+    out.flag(
+        !fails_as_expected(rt, case, stream, calls)?,
+        b"but not as expected",
+    )
+}
+
+/// Adds for each stream how many calls fail in turn, and a line for sinks that take one byte, or none.
+pub(crate) fn put_failures<R: Host>(
+    rt: &R,
+    out: &mut Report,
+    case: &RunCase,
+) -> Result<(), CaseError> {
     let [reads, writes, errors] = calls_of(rt, case)?;
-    tell_stream(rt, name, case, Stream::Input, reads)?;
-    tell_stream(rt, name, case, Stream::Output, writes)?;
-    tell_stream(rt, name, case, Stream::Errors, errors)?;
-    let verdict = verdict(trickles_as_told(rt, case)?);
-    println!(rt; "{name}, sinks that take one byte, or none: {verdict}")
+    put_stream(rt, out, case, Stream::Input, reads)?;
+    put_stream(rt, out, case, Stream::Output, writes)?;
+    put_stream(rt, out, case, Stream::Errors, errors)?;
+    out.line(b"sinks that take one byte, or none")?;
+    out.flag(!trickles_as_expected(rt, case)?, b"but not as expected")
 }

@@ -1,8 +1,9 @@
-//! The files that cases name, and the tables of cases. All are in one folder.
+//! The files that cases name. All are in one folder.
 
 use crate::running::Host;
+use case_texts::{CaseError, Mistake};
 use std::alloc::{AllocError, Global};
-use std::{fs, io};
+use std::fs;
 
 /// Returns the path of a file in the folder.
 fn path_of(alloc: Global, name: &str) -> Result<String, AllocError> {
@@ -10,11 +11,9 @@ fn path_of(alloc: Global, name: &str) -> Result<String, AllocError> {
 }
 
 /// Returns the bytes of a file.
-pub(crate) fn read_file<R: Host>(rt: &R, name: &str) -> io::Result<Vec<u8>> {
-    fs::read(rt, path_of(rt.alloc(), name)?)
-}
-
-/// Returns the text of a table.
-pub(crate) fn read_table<R: Host>(rt: &R, name: &str) -> io::Result<String> {
-    fs::read_to_string(rt, path_of(rt.alloc(), name)?)
+pub(crate) fn read_file<R: Host>(rt: &R, name: &str) -> Result<Vec<u8>, CaseError> {
+    match fs::read(rt, path_of(rt.alloc(), name)?) {
+        Ok(bytes) => Ok(bytes),
+        Err(_) => Err(CaseError::Wrong(Mistake::NoFile)),
+    }
 }

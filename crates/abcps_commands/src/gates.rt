@@ -5,7 +5,6 @@ use crate::running::{Finished, Host, PIECE, Streams, ran_through};
 use abcps::Gate;
 use case_texts::Meeting;
 use std::alloc::{AllocError, Global};
-use std::io;
 use std::sync::atomic::AtomicU64;
 use std::sync::atomic::Ordering::SeqCst;
 
@@ -69,7 +68,10 @@ impl Counter {
 }
 
 /// Runs a case over streams that never fail, and returns the run and who entered its gate.
-pub(crate) fn ran_counted<R: Host>(rt: &R, case: &RunCase) -> io::Result<(Finished, Entered)> {
+pub(crate) fn ran_counted<R: Host>(
+    rt: &R,
+    case: &RunCase,
+) -> Result<(Finished, Entered), AllocError> {
     let counter = make_counter(rt.alloc())?;
     let finished = ran_through(rt, case, &Streams::sound(PIECE), &counter)?;
     Ok((finished, counter.sum()))
@@ -88,7 +90,7 @@ impl Gate for MeetingGate {
 }
 
 /// Runs a case of two tunes over streams that never fail, and returns whether the tunes met.
-pub(crate) fn ran_meeting<R: Host>(rt: &R, case: &RunCase) -> io::Result<(Finished, bool)> {
+pub(crate) fn ran_meeting<R: Host>(rt: &R, case: &RunCase) -> Result<(Finished, bool), AllocError> {
     let gate = MeetingGate {
         meeting: Meeting::new(TURNS),
     };

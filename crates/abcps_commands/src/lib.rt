@@ -1,8 +1,10 @@
-//! Runs each command of the top call over streams in memory, and reports for each case in its folder whether the
-//! status and the written bytes are as the case says: over streams that never fail (the table `cases`), and with each
-//! call of each stream failing in turn (the table `failing`); how often each tune of a book enters the gate (the
-//! table `gates`); and whether two tunes that wait for each other meet (the table `meetings`). `case` says how a line
-//! of a table is read. Then it reports on books and on painted programs, as `books` and `painting` say.
+//! Runs each command of the top call over streams in memory, and checks the status and the written bytes.
+//!
+//! The calls: `run` with the words of a command runs it over streams that never fail; `fail`, the same, also with each
+//! call of each stream failing in turn; `count` also says how often each tune of a book enters the gate, and `meet`
+//! whether two tunes that wait for each other meet. `case` says how the input and the value of these are written.
+//! `book` takes a book and the file of all that is written of it, and `show` the words of a command and a book. `paint`
+//! with a budget runs a program on the painting machine, and `document` the document in a file.
 #![tactic(auto)]
 
 mod books;
@@ -14,97 +16,91 @@ mod made;
 mod painting;
 mod running;
 
-use crate::books::tell_books;
-use crate::case::{RunCase, named_case, verdict};
-use crate::failing::{is_told, tell_failures};
-use crate::files::read_table;
-use crate::gates::{Entered, ran_counted, ran_meeting};
-use crate::painting::tell_painted;
-use crate::running::{PIECE, Streams};
+use crate::books::{put_book, put_shown};
+use crate::case::{RunCase, put_run, run_of};
+use crate::failing::put_failures;
+use crate::gates::{ran_counted, ran_meeting};
+use crate::painting::{put_document, put_program};
+use crate::running::{PIECE, Streams, ran};
+use case_texts::{Answers, Case, CaseError, Mistake, Report, Tally, check_tables};
 pub use running::Host;
 use std::io;
 
-/// Reports a case over streams that never fail.
-fn tell_case<R: Host>(rt: &R, line: &str) -> io::Result<()> {
-    let (name, case) = named_case(rt, line)?;
-    let verdict = verdict(is_told(rt, &case, &Streams::sound(PIECE))?);
-    println!(rt; "{name}: {verdict}")
+/// The tables, in the order in which they are checked.
+const TABLES: [&str; 7] = [
+    "commands/cases",
+    "commands/failing",
+    "commands/gates",
+    "commands/meetings",
+    "commands/books",
+    "commands/hostile",
+    "commands/programs",
+];
+
+/// The calls, with the files and the threads of their runs.
+#[derive(Drop)]
+struct CommandCalls<'a, R> {
+    rt: &'a R,
 }
 
-/// Reports each case of the table `cases`.
-fn tell_cases<R: Host>(rt: &R) -> io::Result<()> {
-    let table = read_table(rt, "cases")?;
-    for line in table.lines() {
-        tell_case(rt, line)?;
+impl<R: Host> Answers for CommandCalls<'_, R> {
+    fn put_answer(&self, out: &mut Report, case: Case<'_>, input: &[u8]) -> Result<(), CaseError> {
+        match case.call {
+            "book" => put_book(self.rt, out, case.input, case.expected),
+            "show" => put_shown(self.rt, out, case.word, input),
+            "paint" => put_program(out, case.word, input),
+            "document" => put_document(self.rt, out, case.input),
+            "run" | "fail" | "count" | "meet" => put_of_run(self.rt, out, case),
+            _ => Err(CaseError::Wrong(Mistake::UnknownCall)),
+        }
     }
-    Ok(())
 }
 
-/// Reports a case over streams that fail.
-fn tell_failing_case<R: Host>(rt: &R, line: &str) -> io::Result<()> {
-    let (name, case) = named_case(rt, line)?;
-    tell_failures(rt, name, &case)
-}
-
-/// Reports each case of the table `failing`.
-fn tell_failing<R: Host>(rt: &R) -> io::Result<()> {
-    let table = read_table(rt, "failing")?;
-    for line in table.lines() {
-        tell_failing_case(rt, line)?;
+/// Adds the value of a call on a run.
+fn put_of_run<R: Host>(rt: &R, out: &mut Report, case: Case<'_>) -> Result<(), CaseError> {
+    let run = run_of(rt, case)?;
+    match case.call {
+        "count" => put_count(rt, out, case, &run),
+        "meet" => put_meeting(rt, out, case, &run),
+        _ => {
+            put_run(out, case, &run, &ran(rt, &run, &Streams::sound(PIECE))?)?;
+            if case.call == "fail" {
+                put_failures(rt, out, &run)?;
+            }
+            Ok(())
+        }
     }
-    Ok(())
 }
 
-/// Returns whether a run of a case is as expected, and who entered its gate.
-fn judged_gate<R: Host>(rt: &R, case: &RunCase) -> io::Result<(bool, Entered)> {
-    let (finished, entered) = ran_counted(rt, case)?;
-    Ok((case.is_told(&finished), entered))
-}
-
-/// Reports a case, and how many tunes entered its gate how often.
-fn tell_gate<R: Host>(rt: &R, line: &str) -> io::Result<()> {
-    let (name, case) = named_case(rt, line)?;
-    let (is_told, entered) = judged_gate(rt, &case)?;
-    let verdict = verdict(is_told);
-    println!(rt;
-        "{name}, {} tunes enter {} to {} times: {verdict}",
+/// Adds a run, and how many tunes entered its gate how often.
+fn put_count<R: Host>(
+    rt: &R,
+    out: &mut Report,
+    case: Case<'_>,
+    run: &RunCase,
+) -> Result<(), CaseError> {
+    let (finished, entered) = ran_counted(rt, run)?;
+    put_run(out, case, run, &finished)?;
+    out.line(b"")?;
+    out.show(format_args!(
+        "{} tunes enter {} to {} times",
         entered.tunes, entered.least, entered.most
-    )
+    ))
 }
 
-/// Reports each case of the table `gates`.
-fn tell_gates<R: Host>(rt: &R) -> io::Result<()> {
-    let table = read_table(rt, "gates")?;
-    for line in table.lines() {
-        tell_gate(rt, line)?;
-    }
-    Ok(())
+/// Adds a run of two tunes that wait for each other, and whether they met.
+fn put_meeting<R: Host>(
+    rt: &R,
+    out: &mut Report,
+    case: Case<'_>,
+    run: &RunCase,
+) -> Result<(), CaseError> {
+    let (finished, have_met) = ran_meeting(rt, run)?;
+    put_run(out, case, run, &finished)?;
+    out.line(if have_met { b"met" } else { b"alone" })
 }
 
-/// Reports a case of two tunes that wait for each other, and whether they met.
-fn tell_meeting<R: Host>(rt: &R, line: &str) -> io::Result<()> {
-    let (name, case) = named_case(rt, line)?;
-    let (finished, have_met) = ran_meeting(rt, &case)?;
-    let met = if have_met { "met" } else { "alone" };
-    let verdict = verdict(case.is_told(&finished));
-    println!(rt; "{name}, {met}: {verdict}")
-}
-
-/// Reports each case of the table `meetings`.
-fn tell_meetings<R: Host>(rt: &R) -> io::Result<()> {
-    let table = read_table(rt, "meetings")?;
-    for line in table.lines() {
-        tell_meeting(rt, line)?;
-    }
-    Ok(())
-}
-
-/// Reports each case of the tables, of the books and of the painted programs.
-pub fn tell_commands<R: Host>(rt: &R) -> io::Result<()> {
-    tell_cases(rt)?;
-    tell_failing(rt)?;
-    tell_gates(rt)?;
-    tell_meetings(rt)?;
-    tell_books(rt)?;
-    tell_painted(rt)
+/// Checks each case of the tables.
+pub fn check_commands<R: Host>(rt: &R) -> io::Result<Tally> {
+    check_tables(rt, &CommandCalls { rt }, &TABLES)
 }

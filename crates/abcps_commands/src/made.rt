@@ -1,7 +1,7 @@
 //! Generated inputs, which are too long to be stored.
 
+use case_texts::{CaseError, Mistake, number_of};
 use std::alloc::{AllocError, Global};
-use std::io;
 
 /// Adds a byte a number of times.
 fn put_all(text: &mut Vec<u8>, byte: u8, count: u32) -> Result<(), AllocError> {
@@ -26,13 +26,11 @@ fn rests(alloc: Global, count: u32) -> Result<Vec<u8>, AllocError> {
 }
 
 /// Returns an input of a number of spaces, or of a book of a number of rests.
-pub(crate) fn made(alloc: Global, count: &str, what: &str) -> io::Result<Vec<u8>> {
-    let Ok(count) = count.parse::<u32>() else {
-        return Err(io::Error::other("a count is no number"));
-    };
+pub(crate) fn made(alloc: Global, count: &str, what: &str) -> Result<Vec<u8>, CaseError> {
+    let count = number_of::<u32>(count)?;
     match what {
         "spaces" => Ok(spaces(alloc, count)?),
         "rests" => Ok(rests(alloc, count)?),
-        _ => Err(io::Error::other("no input is made so")),
+        _ => Err(CaseError::Wrong(Mistake::UnknownInput)),
     }
 }

@@ -5,7 +5,6 @@ use abcps::{Gate, NoGate, Status, run};
 use eng_io::{MemSink, MemSource};
 use mus_units::{Row, Text};
 use std::alloc::{AllocError, Global};
-use std::io;
 use std::rt::Files;
 use std::thread::Threads;
 
@@ -133,7 +132,11 @@ fn sink(alloc: Global, pace: Pace) -> Result<MemSink, AllocError> {
 }
 
 /// Returns a run of a case over such streams, whose tunes enter no gate.
-pub(crate) fn ran<R: Host>(rt: &R, case: &RunCase, streams: &Streams) -> io::Result<Finished> {
+pub(crate) fn ran<R: Host>(
+    rt: &R,
+    case: &RunCase,
+    streams: &Streams,
+) -> Result<Finished, AllocError> {
     ran_through(rt, case, streams, &NoGate)
 }
 
@@ -143,7 +146,7 @@ pub(crate) fn ran_through<R: Host, G: Gate + Sync>(
     case: &RunCase,
     streams: &Streams,
     gate: &G,
-) -> io::Result<Finished> {
+) -> Result<Finished, AllocError> {
     let alloc = rt.alloc();
     let mut input = source(alloc, &case.input, streams.read_fails)?;
     let mut output = sink(alloc, streams.output)?;

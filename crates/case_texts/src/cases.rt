@@ -1,40 +1,56 @@
 ghost use Rattle.std.specs.Prelude.{◌≤◌, length};
 
-use crate::escapes::put_shown;
-use crate::report::Report;
-use mus_units::{Memory, Text};
-use std::alloc::Global;
+use crate::error::{CaseError, Mistake};
 
-/// A case: the name of a call, the word after it if there is one, and the input.
+/// A case: its name, which says what it shows; its call, with the words after it; its input; and the value that is
+/// expected. The input and the value stand as they are written.
 #[derive(Clone, Copy)]
-pub struct CallCase<'a> {
+pub struct Case<'a> {
+    pub name: &'a str,
     pub call: &'a str,
     pub word: &'a str,
     pub input: &'a str,
+    pub expected: &'a str,
 }
 
-/// Returns whether a line of a table is a case: neither empty nor a comment that begins with `#`.
-pub fn is_case(line: &str) -> bool {
-    !line.is_empty() && !line.starts_with('#')
+/// Returns whether a paragraph of a table is a comment.
+pub fn is_comment(paragraph: &str) -> bool {
+    paragraph.lines().all(|line| line.starts_with('#'))
 }
 
-/// Returns the case on a line, such as `read_named K | Bb`. Missing parts are empty.
-pub fn case_of(line: &str) -> CallCase<'_> {
-    let (head, input) = cut(line, " |");
-    let (call, word) = cut(head, " ");
-    CallCase {
+/// Returns the case that a paragraph says: a line of its name, a line of its call, the lines of its input, a line `=`,
+/// and the lines of the value that is expected.
+pub fn case_of(paragraph: &str) -> Result<Case<'_>, CaseError> {
+    if paragraph.starts_with('#') {
+        return Err(CaseError::Wrong(Mistake::JoinedComment));
+    }
+    let (asked, expected) = parts_of(paragraph)?;
+    let (name, rest) = asked
+        .split_once("\n")
+        .ok_or(CaseError::Wrong(Mistake::NoCall))?;
+    if name.is_empty() {
+        return Err(CaseError::Wrong(Mistake::EmptyLine));
+    }
+    let (line, input) = cut(rest, "\n");
+    let (call, word) = cut(line, " ");
+    Ok(Case {
+        name,
         call,
         word,
-        input: input.strip_prefix(' ').unwrap_or(input),
-    }
+        input,
+        expected,
+    })
 }
 
-/// Returns the line of a case that is a whole text, and the case: the line has a call and its words, and the text
-/// follows it.
-pub fn text_case(text: &str) -> (&str, CallCase<'_>) {
-    let (line, input) = cut(text, "\n");
-    let (call, word) = cut(line, " ");
-    (line, CallCase { call, word, input })
+/// Returns what is before and after the line `=` of a paragraph.
+fn parts_of(paragraph: &str) -> Result<(&str, &str), CaseError> {
+    match paragraph.split_once("\n=\n") {
+        Some(parts) => Ok(parts),
+        None => match paragraph.strip_suffix("\n=") {
+            Some(asked) => Ok((asked, "")),
+            None => Err(CaseError::Wrong(Mistake::NoValue)),
+        },
+    }
 }
 
 /// Returns the text before and after a mark.
@@ -48,17 +64,4 @@ pub fn within_limit(bytes: &[u8]) -> &[u8]
 {
     let (prefix, _) = bytes.split_at(bytes.len().min(1_000_000));
     prefix
-}
-
-/// Returns the report lines of a case: its own line, and its value in visible ASCII, each line of which begins with
-/// `begin`.
-pub fn told(alloc: Global, line: &str, begin: &[u8], value: &[u8]) -> Result<Text, Memory> {
-    let mut out = Report::new(alloc);
-    out.append(line.as_bytes())?;
-    out.append(begin)?;
-    for byte in value {
-        put_shown(&mut out, begin, *byte)?;
-    }
-    out.push(b'\n')?;
-    Ok(out.text)
 }

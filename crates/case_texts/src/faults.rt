@@ -1,23 +1,23 @@
+use crate::error::CaseError;
 use crate::report::Report;
 use abc_lines::{Fault, FaultKind, TuneError};
-use mus_units::Memory;
 
 /// Adds a fault as its kind and its place, or passes out of memory on.
-pub fn put_fault(out: &mut Report, error: TuneError) -> Result<(), Memory> {
+pub fn put_fault(out: &mut Report, error: TuneError) -> Result<(), CaseError> {
     match error {
         TuneError::Fault(fault) => put_placed(out, fault),
-        TuneError::Memory => Err(Memory),
+        TuneError::Memory => Err(CaseError::Memory),
     }
 }
 
-fn put_placed(out: &mut Report, fault: Fault) -> Result<(), Memory> {
+fn put_placed(out: &mut Report, fault: Fault) -> Result<(), CaseError> {
     out.next(b"fault ")?;
     put_kind(out, fault.kind)?;
     out.tell(format_args!("line {} column {}", fault.line, fault.column))
 }
 
 /// Adds the name of a kind of fault, and its number if it has one.
-pub fn put_kind(out: &mut Report, kind: FaultKind) -> Result<(), Memory> {
+pub fn put_kind(out: &mut Report, kind: FaultKind) -> Result<(), CaseError> {
     out.append(name_of(kind))?;
     match kind {
         FaultKind::NoWay { reached: number } | FaultKind::TooTall { block: number } => {

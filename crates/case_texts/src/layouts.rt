@@ -1,13 +1,13 @@
 //! Layouts as text.
 
-use crate::Report;
+use crate::error::CaseError;
+use crate::report::Report;
 use lay_breaks::{Breaking, Span};
 use lay_pages::Heights;
 use lay_springs::Placed;
-use mus_units::Memory;
 
 /// Adds a force, whether the system is ragged, and where its columns are.
-pub fn put_placed(out: &mut Report, placed: &Placed) -> Result<(), Memory> {
+pub fn put_placed(out: &mut Report, placed: &Placed) -> Result<(), CaseError> {
     out.next_number(b"force ", placed.force)?;
     out.flag(placed.ragged, b"ragged")?;
     out.next(b"at")?;
@@ -16,7 +16,7 @@ pub fn put_placed(out: &mut Report, placed: &Placed) -> Result<(), Memory> {
 }
 
 /// Adds the breaks of a breaking, its total and its potentials.
-pub fn put_breaking(out: &mut Report, breaking: &Breaking) -> Result<(), Memory> {
+pub fn put_breaking(out: &mut Report, breaking: &Breaking) -> Result<(), CaseError> {
     out.next(b"breaks")?;
     out.tell_all(breaking.breaks.as_slice())?;
     out.next_number(b"total ", breaking.total)?;
@@ -31,12 +31,12 @@ pub fn put_breaking(out: &mut Report, breaking: &Breaking) -> Result<(), Memory>
 }
 
 /// Adds that no breaking is legal, and the greatest bar that one reaches.
-pub fn put_no_way(out: &mut Report, reached: u32) -> Result<(), Memory> {
+pub fn put_no_way(out: &mut Report, reached: u32) -> Result<(), CaseError> {
     out.tell(format_args!("no way {reached}\n"))
 }
 
 /// Adds how staves are stacked: their bases, and their total height.
-pub fn put_heights(out: &mut Report, heights: &Heights) -> Result<(), Memory> {
+pub fn put_heights(out: &mut Report, heights: &Heights) -> Result<(), CaseError> {
     out.next(b"bases")?;
     out.tell_all(heights.bases.as_slice())?;
     out.next_number(b"height ", heights.height)?;
@@ -44,7 +44,7 @@ pub fn put_heights(out: &mut Report, heights: &Heights) -> Result<(), Memory> {
 }
 
 /// Adds a line for each span: its bars and its badness.
-pub fn put_spans(out: &mut Report, spans: &[Span]) -> Result<(), Memory> {
+pub fn put_spans(out: &mut Report, spans: &[Span]) -> Result<(), CaseError> {
     for span in spans {
         out.tell(format_args!("span {} {} {}\n", span.a, span.b, span.badness))?;
     }

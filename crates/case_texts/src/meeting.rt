@@ -1,7 +1,7 @@
 ghost use Rattle.std.specs.Prelude.{◌<◌};
 
-use crate::Report;
-use mus_units::Memory;
+use crate::error::CaseError;
+use crate::report::Report;
 use std::sync::atomic::AtomicBool;
 use std::sync::atomic::Ordering::SeqCst;
 
@@ -42,7 +42,7 @@ impl Meeting {
     }
 
     /// Adds for each whether it met the other.
-    pub fn put_met(&self, out: &mut Report) -> Result<(), Memory> {
+    pub fn put_met(&self, out: &mut Report) -> Result<(), CaseError> {
         for met in &self.met {
             out.tell(if met.load(SeqCst) { "met" } else { "alone" })?;
         }

@@ -1,15 +1,16 @@
+use crate::error::CaseError;
 use crate::report::Report;
 use crate::values::put_letter;
-use mus_units::{Alter, Bar, Base, Deco, Head, Memory, Pitch, Text, Value};
+use mus_units::{Alter, Bar, Base, Deco, Head, Pitch, Text, Value};
 
 /// Adds a pitch as its letter and its octave: `F5`.
-pub fn put_pitch(out: &mut Report, pitch: Pitch) -> Result<(), Memory> {
+pub fn put_pitch(out: &mut Report, pitch: Pitch) -> Result<(), CaseError> {
     put_letter(out, pitch.letter)?;
     out.show(pitch.octave)
 }
 
 /// Adds a head as its letter, its octave and its sign, and `-` if it is tied: `F5^-`.
-pub fn put_head(out: &mut Report, head: Head) -> Result<(), Memory> {
+pub fn put_head(out: &mut Report, head: Head) -> Result<(), CaseError> {
     put_pitch(out, head.pitch)?;
     if let Some(sign) = head.sign {
         out.append(sign_name(sign))?;
@@ -28,7 +29,7 @@ fn sign_name(sign: Alter) -> &'static [u8] {
 }
 
 /// Adds the features of a bar, a letter each: end, start, last, initial, double, dotted, unseen.
-pub fn put_bar(out: &mut Report, bar: Bar) -> Result<(), Memory> {
+pub fn put_bar(out: &mut Report, bar: Bar) -> Result<(), CaseError> {
     let features = [
         (bar.end, b'E'),
         (bar.start, b'S'),
@@ -47,7 +48,7 @@ pub fn put_bar(out: &mut Report, bar: Bar) -> Result<(), Memory> {
 }
 
 /// Adds a decoration by the name of its glyph, or its place and its text.
-pub fn put_deco(out: &mut Report, deco: &Deco) -> Result<(), Memory> {
+pub fn put_deco(out: &mut Report, deco: &Deco) -> Result<(), CaseError> {
     match deco {
         Deco::Below(text) => put_named(out, b"below ", text),
         Deco::Above(text) => put_named(out, b"above ", text),
@@ -56,7 +57,7 @@ pub fn put_deco(out: &mut Report, deco: &Deco) -> Result<(), Memory> {
     }
 }
 
-fn put_named(out: &mut Report, place: &[u8], text: &Text) -> Result<(), Memory> {
+fn put_named(out: &mut Report, place: &[u8], text: &Text) -> Result<(), CaseError> {
     out.append(place)?;
     out.append(text.as_slice())
 }
@@ -80,7 +81,7 @@ fn glyph_name(deco: &Deco) -> &'static [u8] {
 }
 
 /// Adds a value as its base and its dots: `1/4..`.
-pub fn put_value(out: &mut Report, value: Value) -> Result<(), Memory> {
+pub fn put_value(out: &mut Report, value: Value) -> Result<(), CaseError> {
     out.append(base_name(value.base))?;
     for _ in 0..value.dots {
         out.push(b'.')?;

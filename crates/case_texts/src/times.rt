@@ -1,9 +1,9 @@
+use crate::error::CaseError;
 use crate::report::Report;
 use mus_onsets::{Class, ColumnKey};
-use mus_units::Memory;
 
 /// Adds a key of a column: its class, its measure, its tick and its place.
-pub fn put_key(out: &mut Report, key: ColumnKey) -> Result<(), Memory> {
+pub fn put_key(out: &mut Report, key: ColumnKey) -> Result<(), CaseError> {
     out.next(class_name(key.class))?;
     out.next_number(b"measure ", key.measure)?;
     out.next_number(b"tick ", key.tick)?;

@@ -1,14 +1,24 @@
+use crate::error::{CaseError, Mistake};
 use crate::report::Report;
-use mus_units::{Alter, Clef, Frac, Letter, Memory, Meter, Sign, Spread, Wish};
+use mus_units::{Alter, Clef, Frac, Letter, Meter, Sign, Spread, Wish};
+
+/// Returns whether a case gives the word that its call knows; it may give no other.
+pub fn is_given(word: &str, known: &str) -> Result<bool, CaseError> {
+    if word.is_empty() || word == known {
+        Ok(word == known)
+    } else {
+        Err(CaseError::Wrong(Mistake::UnknownWord))
+    }
+}
 
 /// Adds a word and a text after it.
-pub fn put_text(out: &mut Report, name: &[u8], text: &[u8]) -> Result<(), Memory> {
+pub fn put_text(out: &mut Report, name: &[u8], text: &[u8]) -> Result<(), CaseError> {
     out.next(name)?;
     out.next(text)
 }
 
 /// Adds a letter's name.
-pub fn put_letter(out: &mut Report, letter: Letter) -> Result<(), Memory> {
+pub fn put_letter(out: &mut Report, letter: Letter) -> Result<(), CaseError> {
     out.push(match letter {
         Letter::C => b'C',
         Letter::D => b'D',
@@ -20,16 +30,17 @@ pub fn put_letter(out: &mut Report, letter: Letter) -> Result<(), Memory> {
     })
 }
 
-/// Returns the letter of a name, and C for any other text.
-pub fn letter_named(name: &str) -> Letter {
+/// Returns the letter of a name.
+pub fn letter_named(name: &str) -> Result<Letter, CaseError> {
     match name {
-        "D" => Letter::D,
-        "E" => Letter::E,
-        "F" => Letter::F,
-        "G" => Letter::G,
-        "A" => Letter::A,
-        "B" => Letter::B,
-        _ => Letter::C,
+        "C" => Ok(Letter::C),
+        "D" => Ok(Letter::D),
+        "E" => Ok(Letter::E),
+        "F" => Ok(Letter::F),
+        "G" => Ok(Letter::G),
+        "A" => Ok(Letter::A),
+        "B" => Ok(Letter::B),
+        _ => Err(CaseError::Wrong(Mistake::UnknownLetter)),
     }
 }
 
@@ -44,19 +55,20 @@ pub fn alter_name(alter: Alter) -> &'static [u8] {
     }
 }
 
-/// Returns the alteration of a name, and a natural for any other text.
-pub fn alter_named(name: &str) -> Alter {
+/// Returns the alteration of a name; a natural has none.
+pub fn alter_named(name: &str) -> Result<Alter, CaseError> {
     match name {
-        "bb" => Alter::Flat2,
-        "b" => Alter::Flat,
-        "#" => Alter::Sharp,
-        "##" => Alter::Sharp2,
-        _ => Alter::Natural,
+        "bb" => Ok(Alter::Flat2),
+        "b" => Ok(Alter::Flat),
+        "" => Ok(Alter::Natural),
+        "#" => Ok(Alter::Sharp),
+        "##" => Ok(Alter::Sharp2),
+        _ => Err(CaseError::Wrong(Mistake::UnknownAlteration)),
     }
 }
 
 /// Adds a word and signs after it, such as `F# Bb C=`.
-pub fn put_signs(out: &mut Report, name: &[u8], signs: &[Sign]) -> Result<(), Memory> {
+pub fn put_signs(out: &mut Report, name: &[u8], signs: &[Sign]) -> Result<(), CaseError> {
     out.next(name)?;
     for sign in signs {
         out.push(b' ')?;
@@ -67,7 +79,7 @@ pub fn put_signs(out: &mut Report, name: &[u8], signs: &[Sign]) -> Result<(), Me
 }
 
 /// Adds `clef` and the clef's name.
-pub fn put_clef(out: &mut Report, clef: Clef) -> Result<(), Memory> {
+pub fn put_clef(out: &mut Report, clef: Clef) -> Result<(), CaseError> {
     out.next(match clef {
         Clef::Treble => b"clef treble",
         Clef::Bass => b"clef bass",
@@ -76,18 +88,19 @@ pub fn put_clef(out: &mut Report, clef: Clef) -> Result<(), Memory> {
     })
 }
 
-/// Returns the clef of a name, and the treble clef for any other text.
-pub fn clef_named(name: &str) -> Clef {
+/// Returns the clef of a name.
+pub fn clef_named(name: &str) -> Result<Clef, CaseError> {
     match name {
-        "bass" => Clef::Bass,
-        "alto" => Clef::Alto,
-        "tenor" => Clef::Tenor,
-        _ => Clef::Treble,
+        "treble" => Ok(Clef::Treble),
+        "bass" => Ok(Clef::Bass),
+        "alto" => Ok(Clef::Alto),
+        "tenor" => Ok(Clef::Tenor),
+        _ => Err(CaseError::Wrong(Mistake::UnknownClef)),
     }
 }
 
 /// Adds `meter` and the meter.
-pub fn put_meter(out: &mut Report, meter: Meter) -> Result<(), Memory> {
+pub fn put_meter(out: &mut Report, meter: Meter) -> Result<(), CaseError> {
     match meter {
         Meter::Free => out.next(b"meter free"),
         Meter::Common => out.next(b"meter C"),
@@ -97,13 +110,13 @@ pub fn put_meter(out: &mut Report, meter: Meter) -> Result<(), Memory> {
 }
 
 /// Adds a word and a fraction after it.
-pub fn put_frac(out: &mut Report, name: &[u8], frac: Frac) -> Result<(), Memory> {
+pub fn put_frac(out: &mut Report, name: &[u8], frac: Frac) -> Result<(), CaseError> {
     out.next(name)?;
     out.tell(format_args!("{}/{}", frac.num, frac.den))
 }
 
 /// Adds `spread` and how far signs reach.
-pub fn put_spread(out: &mut Report, spread: Spread) -> Result<(), Memory> {
+pub fn put_spread(out: &mut Report, spread: Spread) -> Result<(), CaseError> {
     out.next(match spread {
         Spread::Not => b"spread not",
         Spread::Octave => b"spread octave",
@@ -112,15 +125,10 @@ pub fn put_spread(out: &mut Report, spread: Spread) -> Result<(), Memory> {
 }
 
 /// Adds `stem` and the direction that the stems of a voice are asked to take.
-pub fn put_wish(out: &mut Report, wish: Wish) -> Result<(), Memory> {
+pub fn put_wish(out: &mut Report, wish: Wish) -> Result<(), CaseError> {
     out.next(match wish {
         Wish::Auto => b"stem auto",
         Wish::Up => b"stem up",
         Wish::Down => b"stem down",
     })
-}
-
-/// Returns the number that a text says, or 0.
-pub fn number_of(text: &str) -> u64 {
-    text.parse::<u64>().unwrap_or(0)
 }

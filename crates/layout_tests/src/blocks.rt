@@ -4,7 +4,8 @@ ghost use Rattle.std.specs.Prelude.{◌≡◌, ◌≤◌, ◌^◌, IfOk, IfSome,
 ghost use Rattle.lay_pages.specs.{Stacking.AreGoodStaves, Filling.AreGoodBlocks};
 
 use case_texts::{
-    Report, count_at, number_at, numbers_of, put_breaking, put_heights, put_no_way, small_at,
+    CaseError, Report, count_at, number_at, numbers_of, put_breaking, put_heights, put_no_way,
+    small_at,
 };
 use lay_breaks::{BreakError, least};
 use lay_pages::{Block, PageCosts, PageError, Spot, fill, fill_even, stack};
@@ -13,16 +14,16 @@ use mus_units::{Memory, Row};
 use std::alloc::Global;
 
 /// Returns a staff by its line: how low and how high it reaches, at least 0 and 2000 u.
-fn staff_of(alloc: Global, line: &str) -> Result<StaffMarks, Memory> {
+fn staff_of(alloc: Global, line: &str) -> Result<StaffMarks, CaseError> {
     let numbers = numbers_of(alloc, line)?;
     Ok(StaffMarks {
         marks: Row::new(alloc),
-        low: small_at(&numbers, 0),
-        high: small_at(&numbers, 1),
+        low: small_at(&numbers, 0)?,
+        high: small_at(&numbers, 1)?,
     })
 }
 
-fn staves_of(alloc: Global, text: &str) -> Result<Row<StaffMarks>, Memory> {
+fn staves_of(alloc: Global, text: &str) -> Result<Row<StaffMarks>, CaseError> {
     let mut staves = Row::new(alloc);
     for line in text.lines() {
         staves.push(staff_of(alloc, line)?)?;
@@ -30,11 +31,11 @@ fn staves_of(alloc: Global, text: &str) -> Result<Row<StaffMarks>, Memory> {
     Ok(staves)
 }
 
-/// Returns how far each staff keeps from the one before it, by its line; the number of the first is ignored.
-fn gaps_of(alloc: Global, text: &str) -> Result<Row<u32>, Memory> {
+/// Returns how far each staff but the first keeps from the one before it, by its line.
+fn gaps_of(alloc: Global, text: &str) -> Result<Row<u32>, CaseError> {
     let mut gaps = Row::new(alloc);
-    for line in text.lines() {
-        gaps.push(count_at(&numbers_of(alloc, line)?, 2))?;
+    for line in text.lines().skip(1) {
+        gaps.push(count_at(&numbers_of(alloc, line)?, 2)?)?;
     }
     Ok(gaps)
 }
@@ -52,7 +53,7 @@ fn are_good_staves(staves: &[StaffMarks]) -> bool
 }
 
 /// Adds staves under one another.
-pub(crate) fn put_stack(out: &mut Report, text: &str) -> Result<(), Memory> {
+pub(crate) fn put_stack(out: &mut Report, text: &str) -> Result<(), CaseError> {
     let system = SystemMarks {
         a: 0,
         b: 1,
@@ -65,29 +66,27 @@ pub(crate) fn put_stack(out: &mut Report, text: &str) -> Result<(), Memory> {
     put_stacked(out, &system, gaps_of(out.alloc, text)?.as_slice())
 }
 
-/// Adds the staves of a system under one another with these gaps, the first of which is ignored.
-fn put_stacked(out: &mut Report, system: &SystemMarks, gaps: &[u32]) -> Result<(), Memory>
+/// Adds the staves of a system under one another with these gaps between them.
+fn put_stacked(out: &mut Report, system: &SystemMarks, gaps: &[u32]) -> Result<(), CaseError>
     requires few { length system.now.staves ≤ 16 }
     requires good { AreGoodStaves system.now.staves }
 {
-    match gaps {
-        [_, between @ ..] if between.len() + 1 == system.staves.len() => {
-            put_heights(out, &stack(out.alloc, system, between)?)
-        }
-        _ => out.next(b"no staves\n"),
+    if system.staves.len() == 0 || gaps.len() != system.staves.len() - 1 {
+        return out.next(b"no staves\n");
     }
+    put_heights(out, &stack(out.alloc, system, gaps)?)
 }
 
 /// Returns a block by its line: its height, and 1 if it is tied to the next.
-fn block_of(alloc: Global, line: &str) -> Result<Block, Memory> {
+fn block_of(alloc: Global, line: &str) -> Result<Block, CaseError> {
     let numbers = numbers_of(alloc, line)?;
     Ok(Block {
-        height: number_at(&numbers, 0),
-        keep: number_at(&numbers, 1) == 1,
+        height: number_at(&numbers, 0)?,
+        keep: number_at(&numbers, 1)? == 1,
     })
 }
 
-fn blocks_of(alloc: Global, text: &str) -> Result<Row<Block>, Memory> {
+fn blocks_of(alloc: Global, text: &str) -> Result<Row<Block>, CaseError> {
     let mut blocks = Row::new(alloc);
     for line in text.lines() {
         blocks.push(block_of(alloc, line)?)?;
@@ -123,7 +122,7 @@ fn costs_of(alloc: Global, high: u32, groups: &[Block]) -> Result<Option<PageCos
 }
 
 /// Adds the breaking of groups into pages of a height that costs least.
-fn put_costs(out: &mut Report, high: u32, groups: &[Block]) -> Result<(), Memory>
+fn put_costs(out: &mut Report, high: u32, groups: &[Block]) -> Result<(), CaseError>
     requires high { high ≤ 2 ^ 26 }
     requires few { length groups.now ≤ 1000 }
 {
@@ -133,11 +132,11 @@ fn put_costs(out: &mut Report, high: u32, groups: &[Block]) -> Result<(), Memory
     match least(out.alloc, &costs, groups.len() as u32) {
         Ok(breaking) => put_breaking(out, &breaking),
         Err(BreakError::NoWay { reached }) => put_no_way(out, reached),
-        Err(BreakError::Memory) => Err(Memory),
+        Err(BreakError::Memory) => Err(CaseError::Memory),
     }
 }
 
-fn put_spots(out: &mut Report, spots: &[Spot]) -> Result<(), Memory> {
+fn put_spots(out: &mut Report, spots: &[Spot]) -> Result<(), CaseError> {
     for spot in spots {
         out.tell(format_args!("{} {}\n", spot.page, spot.top))?;
     }
@@ -145,9 +144,9 @@ fn put_spots(out: &mut Report, spots: &[Spot]) -> Result<(), Memory> {
 }
 
 /// Adds where blocks are on pages of a height: a line for each, with its page and its top.
-pub(crate) fn put_fill(out: &mut Report, words: &str, text: &str) -> Result<(), Memory> {
+pub(crate) fn put_fill(out: &mut Report, words: &str, text: &str) -> Result<(), CaseError> {
     let alloc = out.alloc;
-    let high = count_at(&numbers_of(alloc, words)?, 0);
+    let high = count_at(&numbers_of(alloc, words)?, 0)?;
     let blocks = blocks_of(alloc, text)?;
     if blocks.len() > 1000 || !are_good_blocks(blocks.as_slice()) {
         return out.next(b"no blocks\n");
@@ -156,9 +155,9 @@ pub(crate) fn put_fill(out: &mut Report, words: &str, text: &str) -> Result<(), 
 }
 
 /// Adds the costs of pages of groups, and where the groups are on even pages of a height.
-pub(crate) fn put_even(out: &mut Report, words: &str, text: &str) -> Result<(), Memory> {
+pub(crate) fn put_even(out: &mut Report, words: &str, text: &str) -> Result<(), CaseError> {
     let alloc = out.alloc;
-    let high = count_at(&numbers_of(alloc, words)?, 0);
+    let high = count_at(&numbers_of(alloc, words)?, 0)?;
     let blocks = blocks_of(alloc, text)?;
     if high > 1 << 26 || blocks.len() > 1000 || !are_good_blocks(blocks.as_slice()) {
         return out.next(b"no blocks\n");
@@ -168,10 +167,10 @@ pub(crate) fn put_even(out: &mut Report, words: &str, text: &str) -> Result<(), 
 }
 
 /// Adds where blocks are, or why they have no place.
-fn put_filled(out: &mut Report, filled: Result<Row<Spot>, PageError>) -> Result<(), Memory> {
+fn put_filled(out: &mut Report, filled: Result<Row<Spot>, PageError>) -> Result<(), CaseError> {
     match filled {
         Ok(spots) => put_spots(out, spots.as_slice()),
         Err(PageError::TooTall { block }) => out.tell(format_args!("too tall {block}\n")),
-        Err(PageError::Memory) => Err(Memory),
+        Err(PageError::Memory) => Err(CaseError::Memory),
     }
 }

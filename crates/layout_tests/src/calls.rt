@@ -13,63 +13,67 @@ use crate::glyphs::put_glyphs;
 use crate::hearing::put_hearing;
 use crate::listings::put_verdicts;
 use crate::meetings::put_meetings;
-use crate::ops::{put_mark, put_read};
+use crate::ops::{put_mark, put_read, put_words};
 use crate::plain::{put_badness, put_plain};
 use crate::streams::{put_sink, put_source, put_streams};
 use crate::table::put_least;
-use case_texts::{CallCase, Report};
-use mus_units::Memory;
+use case_texts::{Answers, Case, CaseError, Mistake, Report, number_of};
 use std::thread::Threads;
 
-/// Adds the value of a case's call.
-pub(crate) fn put_answer<R: Threads + Sync>(
-    rt: &R,
-    out: &mut Report,
-    case: CallCase<'_>,
-) -> Result<(), Memory> {
-    match case.call {
-        "glyph" | "words" | "stem" | "beam" | "arc" => put_mark(out, case.call, case.word),
-        "meetings" => put_meetings(rt, out),
-        _ => put_page_call(out, case),
+/// The calls, with threads for the rows that wait for each other.
+#[derive(Drop)]
+pub(crate) struct LayoutCalls<'a, R> {
+    pub(crate) rt: &'a R,
+}
+
+impl<R: Threads + Sync> Answers for LayoutCalls<'_, R> {
+    fn put_answer(&self, out: &mut Report, case: Case<'_>, input: &[u8]) -> Result<(), CaseError> {
+        match case.call {
+            "glyph" | "stem" | "beam" | "arc" => put_mark(out, case.call, case.word),
+            "words" => put_words(out, case.word, input),
+            "meetings" => put_meetings(self.rt, out),
+            _ => put_page_call(out, case, input),
+        }
     }
 }
 
 /// Adds the value of a call of the layout or on blocks.
-fn put_layout_call(out: &mut Report, case: CallCase<'_>) -> Result<(), Memory> {
+fn put_layout_call(out: &mut Report, case: Case<'_>) -> Result<(), CaseError> {
     match case.call {
         "least" => put_least(out, case.word, case.input),
         "badness" => put_badness(out, case.word),
         "stack" => put_stack(out, case.input),
         "fill" => put_fill(out, case.word, case.input),
         "even" => put_even(out, case.word, case.input),
-        "check" => put_verdicts(out, case.input),
-        _ => put_plain(out, case),
+        "place" | "fit" | "within" | "set" | "last" => put_plain(out, case),
+        _ => Err(CaseError::Wrong(Mistake::UnknownCall)),
     }
 }
 
 /// Adds the value of a call on pages.
-fn put_page_call(out: &mut Report, case: CallCase<'_>) -> Result<(), Memory> {
+fn put_page_call(out: &mut Report, case: Case<'_>, input: &[u8]) -> Result<(), CaseError> {
     match case.call {
         "glyphs" => put_glyphs(out),
-        "read" => put_read(out, case.word, case.input),
+        "read" => put_read(out, case.word, input),
+        "check" => put_verdicts(out, input),
         "document" => put_document(out, case.word),
         "steps" => put_written(out, case.word, false),
         "whole" => put_written(out, case.word, true),
-        "page" => put_pages(out, true, case.input),
-        "pages" => put_pages(out, false, case.input),
-        "hear" => put_hearing(out, case.word, case.input),
-        _ => put_stream_call(out, case),
+        "page" => put_pages(out, true, input),
+        "pages" => put_pages(out, false, input),
+        "hear" => put_hearing(out, case.word, input),
+        _ => put_stream_call(out, case, input),
     }
 }
 
 /// Adds the value of a call on streams or on words.
-fn put_stream_call(out: &mut Report, case: CallCase<'_>) -> Result<(), Memory> {
+fn put_stream_call(out: &mut Report, case: Case<'_>, input: &[u8]) -> Result<(), CaseError> {
     match case.call {
-        "source" => put_source(out, case.word, case.input),
-        "sink" => put_sink(out, case.word, case.input),
-        "streams" => put_streams(out, case.input),
+        "source" => put_source(out, case.word, input),
+        "sink" => put_sink(out, case.word, input),
+        "streams" => put_streams(out, input),
         "commands" => put_commands(out, case.input),
-        "make" => put_made(out, case.word.parse::<u32>().unwrap_or(0)),
+        "make" => put_made(out, number_of::<u32>(case.word)?),
         _ => put_layout_call(out, case),
     }
 }

@@ -1,7 +1,7 @@
 //! The words of the command line, and generated books.
 
 use abcps_words::{Command, command_of, usage};
-use case_texts::Report;
+use case_texts::{CaseError, Report};
 use gen_book::make;
 use mus_units::{Memory, Spread};
 use std::alloc::Global;
@@ -25,7 +25,7 @@ fn spread_name(spread: Spread) -> &'static str {
     }
 }
 
-fn put_command(out: &mut Report, command: Command) -> Result<(), Memory> {
+fn put_command(out: &mut Report, command: Command) -> Result<(), CaseError> {
     match command {
         Command::Set {
             flow,
@@ -67,7 +67,7 @@ fn put_command(out: &mut Report, command: Command) -> Result<(), Memory> {
 }
 
 /// Adds for each line what its words ask for, and how much input may be read for it.
-pub(crate) fn put_commands(out: &mut Report, text: &str) -> Result<(), Memory> {
+pub(crate) fn put_commands(out: &mut Report, text: &str) -> Result<(), CaseError> {
     for line in text.lines() {
         let words = words_of(out.alloc, line)?;
         match command_of(&words) {
@@ -83,7 +83,7 @@ pub(crate) fn put_commands(out: &mut Report, text: &str) -> Result<(), Memory> {
 }
 
 /// Adds the generated book of a number of tunes: how many bytes it has, its beginning and its end.
-pub(crate) fn put_made(out: &mut Report, tunes: u32) -> Result<(), Memory> {
+pub(crate) fn put_made(out: &mut Report, tunes: u32) -> Result<(), CaseError> {
     if tunes < 1 || tunes > 500 {
         return out.next(b"no book\n");
     }

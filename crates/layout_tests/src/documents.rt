@@ -4,7 +4,7 @@ ghost use Rattle.std.specs.Prelude.{◌≡◌, []};
 
 use crate::ops::put_mark_line;
 use crate::streams::sink_of;
-use case_texts::{Report, bytes_of, count_at, numbers_of};
+use case_texts::{CaseError, Mistake, Report, count_at, numbers_of};
 use eng_io::MemSink;
 use mus_units::{Memory, Row, Text};
 use ps_read::{PagesError, read_document};
@@ -37,24 +37,28 @@ fn empty_page(alloc: Global) -> Page
 }
 
 /// Returns the paper of these numbers.
-fn paper_of(alloc: Global, words: &str) -> Result<Frame, Memory> {
+fn paper_of(alloc: Global, words: &str) -> Result<Frame, CaseError> {
     let numbers = numbers_of(alloc, words)?;
     Ok(Frame {
-        wide: count_at(&numbers, 0),
-        high: count_at(&numbers, 1),
-        left: count_at(&numbers, 2),
-        bottom: count_at(&numbers, 3),
-        scale: u16::try_from(count_at(&numbers, 4)).unwrap_or(0),
+        wide: count_at(&numbers, 0)?,
+        high: count_at(&numbers, 1)?,
+        left: count_at(&numbers, 2)?,
+        bottom: count_at(&numbers, 3)?,
+        scale: scale_of(count_at(&numbers, 4)?)?,
     })
 }
 
+fn scale_of(number: u32) -> Result<u16, CaseError> {
+    u16::try_from(number).map_err(|_| CaseError::Wrong(Mistake::OutOfRange))
+}
+
 /// Adds the text of a document of one empty page on the paper of these numbers.
-pub(crate) fn put_document(out: &mut Report, words: &str) -> Result<(), Memory> {
+pub(crate) fn put_document(out: &mut Report, words: &str) -> Result<(), CaseError> {
     let alloc = out.alloc;
     let frame = paper_of(alloc, words)?;
     put_prolog(alloc, &mut out.text, &frame)?;
     put_page(&mut out.text, 1, &empty_page(alloc))?;
-    put_trailer(&mut out.text, 1)
+    Ok(put_trailer(&mut out.text, 1)?)
 }
 
 /// Writes a document of two empty pages, step by step: one page written as it is made, and one whose text is made
@@ -90,7 +94,7 @@ fn past_prolog(document: &[u8]) -> &[u8] {
 
 /// Writes a document to a sink of pieces, with one numbered call that fails, and adds how much is reported as
 /// written, how much was taken, and what follows the prolog.
-pub(crate) fn put_written(out: &mut Report, words: &str, in_one: bool) -> Result<(), Memory> {
+pub(crate) fn put_written(out: &mut Report, words: &str, in_one: bool) -> Result<(), CaseError> {
     let mut sink = sink_of(out.alloc, words)?;
     let written = if in_one {
         whole(out.alloc, &mut sink)
@@ -101,22 +105,22 @@ pub(crate) fn put_written(out: &mut Report, words: &str, in_one: bool) -> Result
     put_taken(out, sink.taken())
 }
 
-fn put_taken(out: &mut Report, taken: &[u8]) -> Result<(), Memory> {
+fn put_taken(out: &mut Report, taken: &[u8]) -> Result<(), CaseError> {
     out.tell(taken.len())?;
     out.end_line()?;
     out.next(past_prolog(taken))
 }
 
 /// Adds how much is reported as written.
-fn put_sent(out: &mut Report, written: Result<(), DocError>) -> Result<(), Memory> {
+fn put_sent(out: &mut Report, written: Result<(), DocError>) -> Result<(), CaseError> {
     match written {
         Ok(()) => out.next(b"all"),
         Err(DocError::Write(error)) => out.tell(error.written),
-        Err(DocError::Memory) => Err(Memory),
+        Err(DocError::Memory) => Err(CaseError::Memory),
     }
 }
 
-fn put_staff(out: &mut Report, staff: &Staff) -> Result<(), Memory> {
+fn put_staff(out: &mut Report, staff: &Staff) -> Result<(), CaseError> {
     out.tell(format_args!("staff {} {}\n", staff.y, staff.width))?;
     for mark in staff.marks.as_slice() {
         put_mark_line(out, mark, staff.y)?;
@@ -124,7 +128,7 @@ fn put_staff(out: &mut Report, staff: &Staff) -> Result<(), Memory> {
     Ok(())
 }
 
-fn put_item(out: &mut Report, item: &Item) -> Result<(), Memory> {
+fn put_item(out: &mut Report, item: &Item) -> Result<(), CaseError> {
     match item {
         Item::Tune { ordinal } => out.tell(format_args!("tune {ordinal}\n")),
         Item::Title { x, y, text, .. } => {
@@ -142,7 +146,7 @@ fn put_item(out: &mut Report, item: &Item) -> Result<(), Memory> {
     }
 }
 
-fn put_sheet(out: &mut Report, sheet: &Sheet) -> Result<(), Memory> {
+fn put_sheet(out: &mut Report, sheet: &Sheet) -> Result<(), CaseError> {
     let frame = sheet.frame;
     out.next(b"paper")?;
     out.tell_all(&[frame.wide, frame.high, frame.left, frame.bottom])?;
@@ -158,26 +162,26 @@ fn put_sheet(out: &mut Report, sheet: &Sheet) -> Result<(), Memory> {
 }
 
 /// Returns the document of a text, after a prolog if asked.
-pub(crate) fn document_of(alloc: Global, following: bool, text: &str) -> Result<Text, Memory> {
+pub(crate) fn document_of(alloc: Global, following: bool, text: &[u8]) -> Result<Text, Memory> {
     let mut document = Text::new(alloc);
     if following {
         put_prolog(alloc, &mut document, &paper())?;
     }
-    document.append(bytes_of(alloc, text)?.as_slice())?;
+    document.append(text)?;
     Ok(document)
 }
 
 /// Adds the sheet that a text is read as, or the line at which it isn't a document. If `following`, the text follows
 /// a prolog.
-pub(crate) fn put_pages(out: &mut Report, following: bool, text: &str) -> Result<(), Memory> {
+pub(crate) fn put_pages(out: &mut Report, following: bool, text: &[u8]) -> Result<(), CaseError> {
     let document = document_of(out.alloc, following, text)?;
     put_pages_of(out, document.as_slice())
 }
 
-fn put_pages_of(out: &mut Report, document: &[u8]) -> Result<(), Memory> {
+fn put_pages_of(out: &mut Report, document: &[u8]) -> Result<(), CaseError> {
     match read_document(out.alloc, document) {
         Ok(sheet) => put_sheet(out, &sheet),
         Err(PagesError::NotPages { line }) => out.tell(format_args!("no pages at {line}\n")),
-        Err(PagesError::Memory) => Err(Memory),
+        Err(PagesError::Memory) => Err(CaseError::Memory),
     }
 }

@@ -1,10 +1,10 @@
 //! The glyphs.
 
-use case_texts::Report;
+use case_texts::{CaseError, Report};
 use glyph_paths::{all_glyphs, bounds_of, name_of, outline, procedure};
-use mus_units::{Glyph, Memory};
+use mus_units::Glyph;
 
-fn put_glyph(out: &mut Report, glyph: Glyph) -> Result<(), Memory> {
+fn put_glyph(out: &mut Report, glyph: Glyph) -> Result<(), CaseError> {
     let bounds = bounds_of(glyph);
     out.next(name_of(glyph))?;
     out.tell_all(&[bounds.left, bounds.low, bounds.right, bounds.high])?;
@@ -15,7 +15,7 @@ fn put_glyph(out: &mut Report, glyph: Glyph) -> Result<(), Memory> {
 }
 
 /// Adds for each glyph its name, its bounds and the number of its steps, and the line of its procedure.
-pub(crate) fn put_glyphs(out: &mut Report) -> Result<(), Memory> {
+pub(crate) fn put_glyphs(out: &mut Report) -> Result<(), CaseError> {
     for glyph in all_glyphs() {
         put_glyph(out, *glyph)?;
     }

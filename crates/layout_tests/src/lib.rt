@@ -1,4 +1,5 @@
-//! Makes the calls that the cases in `layout/cases` name, and prints each call's value as text. `calls` has the names.
+//! Makes the calls that the cases of layout name: springs, breakings, pages, their text, streams and words. `calls` has
+//! the names.
 #![tactic(auto)]
 
 mod blocks;
@@ -15,33 +16,25 @@ mod plain;
 mod streams;
 mod table;
 
-use crate::calls::put_answer;
+use crate::calls::LayoutCalls;
 use crate::laws::state_laws;
-use case_texts::{Report, put_out, text_case, told};
-use mus_units::{Memory, Text};
-use std::alloc::Global;
+use case_texts::{Tally, check_tables};
+use std::io;
 use std::rt::Files;
 use std::thread::Threads;
-use std::{fs, io};
 
-/// Returns a case's line, followed by the value of its call.
-fn answer<R: Threads + Sync>(rt: &R, alloc: Global, text: &str) -> Result<Text, Memory> {
-    let (line, case) = text_case(text);
-    let mut value = Report::new(alloc);
-    put_answer(rt, &mut value, case)?;
-    told(alloc, line, b"\n", value.text.as_slice())
-}
+/// The tables, in the order in which they are checked.
+const TABLES: [&str; 6] = [
+    "layout/springs",
+    "layout/breakings",
+    "layout/pages",
+    "layout/marks",
+    "layout/documents",
+    "layout/streams",
+];
 
-/// Reports each case.
-pub fn tell_layout<R: Files + Print + AllocGlobal + Threads + Sync>(rt: &R) -> io::Result<()> {
+/// Checks each case of the tables.
+pub fn check_layout<R: Files + Print + AllocGlobal + Threads + Sync>(rt: &R) -> io::Result<Tally> {
     state_laws();
-    let cases = fs::read_to_string(rt, "layout/cases")?;
-    tell_cases(rt, cases.as_str())
-}
-
-fn tell_cases<R: Print + AllocGlobal + Threads + Sync>(rt: &R, cases: &str) -> io::Result<()> {
-    for text in cases.split("\n\n") {
-        put_out(rt, answer(rt, rt.alloc(), text))?;
-    }
-    Ok(())
+    check_tables(rt, &LayoutCalls { rt }, &TABLES)
 }

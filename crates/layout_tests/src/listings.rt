@@ -1,13 +1,11 @@
 //! Listings and their verdicts.
 
-use case_texts::{Report, bytes_of};
+use case_texts::{CaseError, Report};
 use lay_cert::{CertError, check_listing, put_verdict};
-use mus_units::Memory;
 
 /// Adds the verdicts on a listing, or the line at which the text isn't one.
-pub(crate) fn put_verdicts(out: &mut Report, text: &str) -> Result<(), Memory> {
-    let bytes = bytes_of(out.alloc, text)?;
-    match check_listing(out.alloc, bytes.as_slice()) {
+pub(crate) fn put_verdicts(out: &mut Report, text: &[u8]) -> Result<(), CaseError> {
+    match check_listing(out.alloc, text) {
         Ok(judged) => {
             for one in judged.as_slice() {
                 put_verdict(&mut out.text, one)?;
@@ -15,6 +13,6 @@ pub(crate) fn put_verdicts(out: &mut Report, text: &str) -> Result<(), Memory> {
             Ok(())
         }
         Err(CertError::NotListing { line }) => out.tell(format_args!("no listing at {line}\n")),
-        Err(CertError::Memory) => Err(Memory),
+        Err(CertError::Memory) => Err(CaseError::Memory),
     }
 }

@@ -3,7 +3,7 @@
 ghost use Rattle.std.specs.Prelude.{◌≡◌, ◌∷◌, []};
 ghost use Rattle.layout_tests.specs.Meeting.{one_row, row_low};
 
-use case_texts::{Meeting, Report};
+use case_texts::{CaseError, Meeting, Report};
 use eng_jobs::Jobs;
 use lay_rows::{RowMaker, Rows, make_rows};
 use mus_units::{Memory, Row};
@@ -40,7 +40,7 @@ fn put_rows<R: Threads + Sync>(
     out: &mut Report,
     jobs: Jobs,
     turns: u32,
-) -> Result<(), Memory> {
+) -> Result<(), CaseError> {
     let alloc = out.alloc;
     let meeting = Meeting::new(turns);
     let waiting = MeetingRows { alloc, meeting };
@@ -48,7 +48,7 @@ fn put_rows<R: Threads + Sync>(
     waiting.meeting.put_met(out)
 }
 
-fn put_made(out: &mut Report, made: &Rows) -> Result<(), Memory> {
+fn put_made(out: &mut Report, made: &Rows) -> Result<(), CaseError> {
     for row in &made.rows {
         out.tell_all(row.as_slice())?;
     }
@@ -57,7 +57,7 @@ fn put_made(out: &mut Report, made: &Rows) -> Result<(), Memory> {
 
 /// Adds whether two rows meet with two jobs and with one. With one job the first waits in vain, and the second finds
 /// that the first was begun.
-pub(crate) fn put_meetings<R: Threads + Sync>(rt: &R, out: &mut Report) -> Result<(), Memory> {
+pub(crate) fn put_meetings<R: Threads + Sync>(rt: &R, out: &mut Report) -> Result<(), CaseError> {
     put_rows(rt, out, Jobs { count: 2 }, 200_000_000)?;
     put_rows(rt, out, Jobs { count: 1 }, 1000)
 }

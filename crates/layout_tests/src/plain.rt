@@ -2,12 +2,12 @@
 
 ghost use Rattle.std.specs.Prelude.{◌≤◌, ◌<◌, length};
 
-use case_texts::{CallCase, Report, count_at, number_at, numbers_of, put_placed};
+use case_texts::{Case, CaseError, Mistake, Report, count_at, number_at, numbers_of, put_placed};
 use lay_reaches::Column;
 use lay_rows::badness;
 use lay_springs::{Progress, Reach, fit_within, justify, place};
 use mus_onsets::{Class, ColumnKey};
-use mus_units::{Memory, Row};
+use mus_units::Row;
 use std::alloc::Global;
 
 /// The gaps of the two lanes.
@@ -15,13 +15,13 @@ const GAPS: [u32; 2] = [100, 300];
 
 /// Returns a column by its line: how far it reaches to the left and to the right, how many lanes it is in, 1 or 2,
 /// and its natural length.
-fn column_of(alloc: Global, line: &str) -> Result<Column, Memory> {
+fn column_of(alloc: Global, line: &str) -> Result<Column, CaseError> {
     let numbers = numbers_of(alloc, line)?;
     let reach = Some(Reach {
-        left: count_at(&numbers, 0),
-        right: count_at(&numbers, 1),
+        left: count_at(&numbers, 0)?,
+        right: count_at(&numbers, 1)?,
     });
-    let other = if number_at(&numbers, 2) == 2 {
+    let other = if number_at(&numbers, 2)? == 2 {
         reach
     } else {
         None
@@ -34,11 +34,11 @@ fn column_of(alloc: Global, line: &str) -> Result<Column, Memory> {
             place: 0,
         },
         reaches: Row::from_slice(alloc, &[reach, other])?.into(),
-        natural: count_at(&numbers, 3),
+        natural: count_at(&numbers, 3)?,
     })
 }
 
-fn columns_of(alloc: Global, text: &str) -> Result<Row<Column>, Memory> {
+fn columns_of(alloc: Global, text: &str) -> Result<Row<Column>, CaseError> {
     let mut columns = Row::new(alloc);
     for line in text.lines() {
         columns.push(column_of(alloc, line)?)?;
@@ -46,7 +46,7 @@ fn columns_of(alloc: Global, text: &str) -> Result<Row<Column>, Memory> {
     Ok(columns)
 }
 
-fn put_force(out: &mut Report, force: Option<u16>) -> Result<(), Memory> {
+fn put_force(out: &mut Report, force: Option<u16>) -> Result<(), CaseError> {
     match force {
         Some(force) => out.tell(force)?,
         None => out.next(b"none")?,
@@ -54,8 +54,13 @@ fn put_force(out: &mut Report, force: Option<u16>) -> Result<(), Memory> {
     out.end_line()
 }
 
+/// Returns the force of a number.
+fn force_of(number: u32) -> Result<u16, CaseError> {
+    u16::try_from(number).map_err(|_| CaseError::Wrong(Mistake::OutOfRange))
+}
+
 /// Adds the least places of columns at a force.
-fn put_places(out: &mut Report, columns: &[Column], force: u16) -> Result<(), Memory>
+fn put_places(out: &mut Report, columns: &[Column], force: u16) -> Result<(), CaseError>
     requires some { 0 < length columns.now }
     requires few { length columns.now ≤ 200000 }
 {
@@ -72,7 +77,7 @@ fn put_fit(
     width: u32,
     most: u32,
     last: Option<bool>,
-) -> Result<(), Memory>
+) -> Result<(), CaseError>
     requires some { 0 < length columns.now }
     requires few { length columns.now ≤ 200000 }
 {
@@ -93,9 +98,14 @@ fn put_fit(
 
 /// Adds the value of a call on plain columns: `place F`, `fit W`, `within W M` with the greatest force that may be
 /// tried, `set W` and `last W`.
-pub(crate) fn put_plain(out: &mut Report, case: CallCase<'_>) -> Result<(), Memory> {
+pub(crate) fn put_plain(out: &mut Report, case: Case<'_>) -> Result<(), CaseError> {
     let numbers = numbers_of(out.alloc, case.word)?;
-    let (first, second) = (count_at(&numbers, 0), count_at(&numbers, 1));
+    let first = count_at(&numbers, 0)?;
+    let second = if case.call == "within" {
+        count_at(&numbers, 1)?
+    } else {
+        2048
+    };
     let columns = columns_of(out.alloc, case.input)?;
     if columns.len() == 0 || columns.len() > 1000 {
         return out.next(b"no columns\n");
@@ -109,22 +119,21 @@ fn put_of_columns(
     columns: &[Column],
     first: u32,
     second: u32,
-) -> Result<(), Memory>
+) -> Result<(), CaseError>
     requires some { 0 < length columns.now }
     requires few { length columns.now ≤ 200000 }
 {
     match call {
-        "place" => put_places(out, columns, u16::try_from(first).unwrap_or(0)),
-        "fit" => put_fit(out, columns, first, 2048, None),
-        "within" => put_fit(out, columns, first, second, None),
+        "place" => put_places(out, columns, force_of(first)?),
+        "fit" | "within" => put_fit(out, columns, first, second, None),
         "set" => put_fit(out, columns, first, 2048, Some(false)),
         _ => put_fit(out, columns, first, 2048, Some(true)),
     }
 }
 
 /// Adds the badness of a span at a force, and of a last one.
-pub(crate) fn put_badness(out: &mut Report, words: &str) -> Result<(), Memory> {
-    let force = u16::try_from(count_at(&numbers_of(out.alloc, words)?, 0)).unwrap_or(0);
+pub(crate) fn put_badness(out: &mut Report, words: &str) -> Result<(), CaseError> {
+    let force = force_of(count_at(&numbers_of(out.alloc, words)?, 0)?)?;
     out.tell_all(&[badness(force, false), badness(force, true)])?;
     out.end_line()
 }

@@ -3,9 +3,9 @@
 ghost use Rattle.std.specs.Prelude.{length, refl};
 ghost use Rattle.layout_tests.specs.Table.{capped_cost, is_marked, capped_stop, capped_small};
 
-use case_texts::{Report, numbers_of, put_breaking, put_no_way};
+use case_texts::{CaseError, Report, number_of, numbers_of, put_breaking, put_no_way};
 use lay_breaks::{BreakError, Costs, least};
-use mus_units::{Memory, Row};
+use mus_units::Row;
 use std::alloc::Global;
 
 /// Row a has the costs of the spans from bar a on, and mark b says whether bar b + 1 is forced. A cost past 2^40
@@ -47,17 +47,17 @@ impl Costs for Table {
 }
 
 /// Returns the costs of a line; a line of `-` has none.
-fn row_of(alloc: Global, line: &str) -> Result<Row<u64>, Memory> {
+fn row_of(alloc: Global, line: &str) -> Result<Row<u64>, CaseError> {
     let mut row = Row::new(alloc);
     if line != "-" {
         for word in line.split(' ') {
-            row.push(word.parse::<u64>().unwrap_or(0))?;
+            row.push(number_of::<u64>(word)?)?;
         }
     }
     Ok(row)
 }
 
-fn rows_of(alloc: Global, text: &str) -> Result<Row<Row<u64>>, Memory> {
+fn rows_of(alloc: Global, text: &str) -> Result<Row<Row<u64>>, CaseError> {
     let mut rows = Row::new(alloc);
     for line in text.lines() {
         rows.push(row_of(alloc, line)?)?;
@@ -66,7 +66,7 @@ fn rows_of(alloc: Global, text: &str) -> Result<Row<Row<u64>>, Memory> {
 }
 
 /// Returns the table of a text, and a mark for each number of the words: 1 if its bar is forced.
-fn table_of(alloc: Global, words: &str, text: &str) -> Result<Table, Memory> {
+fn table_of(alloc: Global, words: &str, text: &str) -> Result<Table, CaseError> {
     let mut marks = Row::new(alloc);
     for number in numbers_of(alloc, words)?.as_slice() {
         marks.push(*number == 1)?;
@@ -78,7 +78,7 @@ fn table_of(alloc: Global, words: &str, text: &str) -> Result<Table, Memory> {
 }
 
 /// Adds the choice among the breakings of a table.
-pub(crate) fn put_least(out: &mut Report, words: &str, text: &str) -> Result<(), Memory> {
+pub(crate) fn put_least(out: &mut Report, words: &str, text: &str) -> Result<(), CaseError> {
     let table = table_of(out.alloc, words, text)?;
     let bars = table.rows.len();
     if bars > 1000 {
@@ -87,6 +87,6 @@ pub(crate) fn put_least(out: &mut Report, words: &str, text: &str) -> Result<(),
     match least(out.alloc, &table, bars as u32) {
         Ok(breaking) => put_breaking(out, &breaking),
         Err(BreakError::NoWay { reached }) => put_no_way(out, reached),
-        Err(BreakError::Memory) => Err(Memory),
+        Err(BreakError::Memory) => Err(CaseError::Memory),
     }
 }

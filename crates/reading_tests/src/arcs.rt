@@ -1,13 +1,12 @@
 ghost use Rattle.mus_score.specs.GoodScore.{IsGoodScore};
 
 use crate::times::measures_named;
-use case_texts::Report;
+use case_texts::{CaseError, Report};
 use mus_arcs::{Arc, arcs, pieces};
 use mus_score::Score;
-use mus_units::Memory;
 
 /// Adds a line for each slur and tie of each voice.
-pub(crate) fn put_arcs(out: &mut Report, score: &Score) -> Result<(), Memory>
+pub(crate) fn put_arcs(out: &mut Report, score: &Score) -> Result<(), CaseError>
     requires { IsGoodScore score.now }
 {
     for voice in score.voices.as_slice() {
@@ -17,7 +16,7 @@ pub(crate) fn put_arcs(out: &mut Report, score: &Score) -> Result<(), Memory>
     Ok(())
 }
 
-fn put_all(out: &mut Report, arcs: &[Arc]) -> Result<(), Memory> {
+fn put_all(out: &mut Report, arcs: &[Arc]) -> Result<(), CaseError> {
     for arc in arcs {
         out.line(if arc.tie { b"tie" } else { b"slur" })?;
         out.tell(format_args!("{} to {}", arc.first, arc.last))?;
@@ -29,9 +28,9 @@ fn put_all(out: &mut Report, arcs: &[Arc]) -> Result<(), Memory> {
 
 /// Adds what a system of the measures a to b - 1, named by the argument, draws of a slur of the measures that the
 /// input names.
-pub(crate) fn put_piece(out: &mut Report, word: &str, input: &str) -> Result<(), Memory> {
-    let (a, b) = measures_named(word);
-    let (from, to) = measures_named(input);
+pub(crate) fn put_piece(out: &mut Report, word: &str, input: &str) -> Result<(), CaseError> {
+    let (a, b) = measures_named(word)?;
+    let (from, to) = measures_named(input)?;
     let arc = Arc {
         tie: false,
         first: 8,

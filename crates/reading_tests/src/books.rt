@@ -1,7 +1,7 @@
 ghost use Rattle.{std.specs.Prelude.{IfOk}, abc_lines.specs.Good.{IsGoodBook, IsGoodLine}};
 
 use abc_lines::{Book, Line, LineKind, TuneText, cut_book, field_text, kind_of};
-use case_texts::{Report, within_limit};
+use case_texts::{CaseError, Report, within_limit};
 use mus_units::{Memory, Text};
 use std::alloc::Global;
 
@@ -24,13 +24,13 @@ pub(crate) fn line_of(alloc: Global, bytes: &[u8]) -> Result<Line, Memory>
 
 /// Adds a book line by line: each line as its number and its text, and a tune's lines after `#` and its number in the
 /// book.
-pub(crate) fn put_book(out: &mut Report, bytes: &[u8]) -> Result<(), Memory> {
+pub(crate) fn put_book(out: &mut Report, bytes: &[u8]) -> Result<(), CaseError> {
     let book = book_of(out.alloc, bytes)?;
     put_lines(out, book.header.as_slice())?;
     put_tunes(out, book.tunes.as_slice())
 }
 
-fn put_tunes(out: &mut Report, tunes: &[TuneText]) -> Result<(), Memory> {
+fn put_tunes(out: &mut Report, tunes: &[TuneText]) -> Result<(), CaseError> {
     for tune in tunes {
         out.line_number(b"#", tune.ordinal)?;
         put_lines(out, tune.lines.as_slice())?;
@@ -38,7 +38,7 @@ fn put_tunes(out: &mut Report, tunes: &[TuneText]) -> Result<(), Memory> {
     Ok(())
 }
 
-fn put_lines(out: &mut Report, lines: &[Line]) -> Result<(), Memory> {
+fn put_lines(out: &mut Report, lines: &[Line]) -> Result<(), CaseError> {
     for line in lines {
         out.line_number(b"", line.number)?;
         out.push(b':')?;
@@ -48,12 +48,12 @@ fn put_lines(out: &mut Report, lines: &[Line]) -> Result<(), Memory> {
 }
 
 /// Adds what a line is by its first bytes.
-pub(crate) fn put_line_kind(out: &mut Report, bytes: &[u8]) -> Result<(), Memory> {
+pub(crate) fn put_line_kind(out: &mut Report, bytes: &[u8]) -> Result<(), CaseError> {
     let line = line_of(out.alloc, bytes)?;
     put_kind(out, kind_of(&line))
 }
 
-fn put_kind(out: &mut Report, kind: LineKind) -> Result<(), Memory> {
+fn put_kind(out: &mut Report, kind: LineKind) -> Result<(), CaseError> {
     match kind {
         LineKind::Field { letter } => {
             out.append(b"field ")?;
@@ -65,7 +65,7 @@ fn put_kind(out: &mut Report, kind: LineKind) -> Result<(), Memory> {
 }
 
 /// Adds the text of a line after its first two bytes, between angle brackets.
-pub(crate) fn put_field_text(out: &mut Report, bytes: &[u8]) -> Result<(), Memory> {
+pub(crate) fn put_field_text(out: &mut Report, bytes: &[u8]) -> Result<(), CaseError> {
     out.push(b'<')?;
     out.append(field_text(&line_of(out.alloc, bytes)?))?;
     out.push(b'>')

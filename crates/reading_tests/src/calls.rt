@@ -2,21 +2,20 @@ use crate::asked::put_asked_for;
 use crate::books::{put_book, put_field_text, put_line_kind};
 use crate::fields::{put_field_of_line, put_named_field};
 use crate::headers::{put_defaults_of_book, put_headers_of_book};
-use crate::music::{put_front, put_line_parts, put_music, put_spelling};
+use crate::music::{put_line_parts, put_music, put_prefix, put_spelling};
 use crate::papers::{put_body_of_book, put_paper_of_book};
 use crate::pitches::{put_alteration, put_height, put_key, put_laid_key, put_signature};
 use crate::units::{put_parts, put_ticks, put_value_of};
-use case_texts::{Answers, CallCase, Report};
-use mus_units::Memory;
+use case_texts::{Answers, Case, CaseError, Report};
 
 /// The calls that read, and those that make a score or ask about one.
 pub(crate) struct ReadingCalls;
 
 impl Answers for ReadingCalls {
-    fn put_answer(&self, out: &mut Report, case: CallCase<'_>, input: &[u8]) -> Result<(), Memory> {
+    fn put_answer(&self, out: &mut Report, case: Case<'_>, input: &[u8]) -> Result<(), CaseError> {
         match case.call {
             "read_music" => put_music(out, case.word, input),
-            "read_prefix" => put_front(out, case.word, input),
+            "read_prefix" => put_prefix(out, case.word, input),
             "read_part" => put_line_parts(out, case.word, input),
             "spell" => put_spelling(out, case.word, input),
             _ => put_lines(out, case, input),
@@ -25,7 +24,7 @@ impl Answers for ReadingCalls {
 }
 
 /// Adds the value of a call that reads books, fields or headers.
-fn put_lines(out: &mut Report, case: CallCase<'_>, input: &[u8]) -> Result<(), Memory> {
+fn put_lines(out: &mut Report, case: Case<'_>, input: &[u8]) -> Result<(), CaseError> {
     match case.call {
         "cut_book" => put_book(out, input),
         "kind_of" => put_line_kind(out, input),
@@ -41,7 +40,7 @@ fn put_lines(out: &mut Report, case: CallCase<'_>, input: &[u8]) -> Result<(), M
 }
 
 /// Adds the value of a call on lengths, pitches and keys, or of one that makes a score or asks about one.
-fn put_value(out: &mut Report, case: CallCase<'_>, input: &[u8]) -> Result<(), Memory> {
+fn put_value(out: &mut Report, case: Case<'_>, input: &[u8]) -> Result<(), CaseError> {
     match case.call {
         "value_of" => put_value_of(out, case.input),
         "parts_of" => put_parts(out, case.input),

@@ -1,9 +1,11 @@
-use case_texts::{Report, put_clef, put_deco, put_head, put_meter, put_signs, put_text, put_value};
+use case_texts::{
+    CaseError, Report, put_clef, put_deco, put_head, put_meter, put_signs, put_text, put_value,
+};
 use mus_score::{Changes, Event, Look, Mention};
-use mus_units::{Deco, Head, Memory, Text};
+use mus_units::{Deco, Head, Text};
 
 /// Adds a line of an event: its id, its heads or its look, its value and its ticks, and what else belongs to it.
-pub(crate) fn put_event(out: &mut Report, kind: &[u8], event: &Event) -> Result<(), Memory> {
+pub(crate) fn put_event(out: &mut Report, kind: &[u8], event: &Event) -> Result<(), CaseError> {
     out.line_number(kind, event.id)?;
     out.next(look_name(event.look))?;
     put_heads(out, event.heads.as_slice())?;
@@ -14,14 +16,14 @@ pub(crate) fn put_event(out: &mut Report, kind: &[u8], event: &Event) -> Result<
     put_words(out, event.words.as_slice())
 }
 
-fn put_length(out: &mut Report, event: &Event) -> Result<(), Memory> {
+fn put_length(out: &mut Report, event: &Event) -> Result<(), CaseError> {
     out.next(b"")?;
     put_value(out, event.value)?;
     out.tell(event.ticks)?;
     out.flag(event.parted, b"parted")
 }
 
-fn put_slurs(out: &mut Report, event: &Event) -> Result<(), Memory> {
+fn put_slurs(out: &mut Report, event: &Event) -> Result<(), CaseError> {
     put_count(out, b"begins ", event.begins)?;
     put_count(out, b"ends ", event.ends)
 }
@@ -34,7 +36,7 @@ fn look_name(look: Look) -> &'static [u8] {
     }
 }
 
-fn put_heads(out: &mut Report, heads: &[Head]) -> Result<(), Memory> {
+fn put_heads(out: &mut Report, heads: &[Head]) -> Result<(), CaseError> {
     for head in heads {
         out.next(b"")?;
         put_head(out, *head)?;
@@ -42,14 +44,14 @@ fn put_heads(out: &mut Report, heads: &[Head]) -> Result<(), Memory> {
     Ok(())
 }
 
-fn put_count(out: &mut Report, name: &[u8], count: u32) -> Result<(), Memory> {
+fn put_count(out: &mut Report, name: &[u8], count: u32) -> Result<(), CaseError> {
     if count == 0 {
         return Ok(());
     }
     out.next_number(name, count)
 }
 
-fn put_changes(out: &mut Report, changes: &Changes) -> Result<(), Memory> {
+fn put_changes(out: &mut Report, changes: &Changes) -> Result<(), CaseError> {
     if let Some(clef) = changes.clef {
         put_clef(out, clef)?;
     }
@@ -63,7 +65,7 @@ fn put_changes(out: &mut Report, changes: &Changes) -> Result<(), Memory> {
 }
 
 /// Adds the decorations, the texts and the ending of an event.
-fn put_marks(out: &mut Report, event: &Event) -> Result<(), Memory> {
+fn put_marks(out: &mut Report, event: &Event) -> Result<(), CaseError> {
     put_decos(out, event.decos.as_slice())?;
     put_mentions(out, event.mentions.as_slice())?;
     match &event.ending {
@@ -72,7 +74,7 @@ fn put_marks(out: &mut Report, event: &Event) -> Result<(), Memory> {
     }
 }
 
-fn put_decos(out: &mut Report, decos: &[Deco]) -> Result<(), Memory> {
+fn put_decos(out: &mut Report, decos: &[Deco]) -> Result<(), CaseError> {
     for deco in decos {
         out.next(b"deco ")?;
         put_deco(out, deco)?;
@@ -80,7 +82,7 @@ fn put_decos(out: &mut Report, decos: &[Deco]) -> Result<(), Memory> {
     Ok(())
 }
 
-fn put_mentions(out: &mut Report, mentions: &[Mention]) -> Result<(), Memory> {
+fn put_mentions(out: &mut Report, mentions: &[Mention]) -> Result<(), CaseError> {
     for mention in mentions {
         let place: &[u8] = if mention.below { b"below" } else { b"above" };
         put_text(out, place, mention.text.as_slice())?;
@@ -89,7 +91,7 @@ fn put_mentions(out: &mut Report, mentions: &[Mention]) -> Result<(), Memory> {
 }
 
 /// Adds the words of an event, each between angle brackets, and `-` for a verse without a word.
-fn put_words(out: &mut Report, words: &[Option<Text>]) -> Result<(), Memory> {
+fn put_words(out: &mut Report, words: &[Option<Text>]) -> Result<(), CaseError> {
     for word in words {
         match word {
             Some(text) => {

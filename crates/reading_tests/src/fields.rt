@@ -2,10 +2,9 @@ use crate::books::line_of;
 use abc_field::{Breaks, Field, FieldError, KeyText, VoiceDef, read_field, read_named};
 use abc_lines::{FaultKind, TuneError};
 use case_texts::{
-    Report, put_clef, put_fault, put_frac, put_kind, put_meter, put_signs, put_spread, put_text,
-    put_wish,
+    CaseError, Mistake, Report, put_clef, put_fault, put_frac, put_kind, put_meter, put_signs,
+    put_spread, put_text, put_wish,
 };
-use mus_units::Memory;
 use std::alloc::Global;
 
 /// Returns what a line says.
@@ -14,7 +13,7 @@ fn field_of(alloc: Global, bytes: &[u8]) -> Result<Field, TuneError> {
 }
 
 /// Adds what a line says, or its fault.
-pub(crate) fn put_field_of_line(out: &mut Report, bytes: &[u8]) -> Result<(), Memory> {
+pub(crate) fn put_field_of_line(out: &mut Report, bytes: &[u8]) -> Result<(), CaseError> {
     match field_of(out.alloc, bytes) {
         Ok(field) => put_field(out, &field),
         Err(error) => put_fault(out, error),
@@ -22,21 +21,23 @@ pub(crate) fn put_field_of_line(out: &mut Report, bytes: &[u8]) -> Result<(), Me
 }
 
 /// Adds what a letter and a text within a music line say, or their fault.
-pub(crate) fn put_named_field(out: &mut Report, word: &str, bytes: &[u8]) -> Result<(), Memory> {
-    let letter = word.as_bytes().first().copied().unwrap_or(b'?');
-    match read_named(out.alloc, letter, bytes) {
+pub(crate) fn put_named_field(out: &mut Report, word: &str, bytes: &[u8]) -> Result<(), CaseError> {
+    let [letter] = word.as_bytes() else {
+        return Err(CaseError::Wrong(Mistake::UnknownLetter));
+    };
+    match read_named(out.alloc, *letter, bytes) {
         Ok(field) => put_field(out, &field),
         Err(FieldError::Fault(kind)) => put_kind_of_fault(out, kind),
-        Err(FieldError::Memory) => Err(Memory),
+        Err(FieldError::Memory) => Err(CaseError::Memory),
     }
 }
 
-fn put_kind_of_fault(out: &mut Report, kind: FaultKind) -> Result<(), Memory> {
+fn put_kind_of_fault(out: &mut Report, kind: FaultKind) -> Result<(), CaseError> {
     out.append(b"fault ")?;
     put_kind(out, kind)
 }
 
-fn put_field(out: &mut Report, field: &Field) -> Result<(), Memory> {
+fn put_field(out: &mut Report, field: &Field) -> Result<(), CaseError> {
     match field {
         Field::Key(text) => put_key_text(out, text),
         Field::Meter(meter) => put_meter(out, *meter),
@@ -49,7 +50,7 @@ fn put_field(out: &mut Report, field: &Field) -> Result<(), Memory> {
 }
 
 /// Adds a field as written, or `other`.
-fn put_written(out: &mut Report, field: &Field) -> Result<(), Memory> {
+fn put_written(out: &mut Report, field: &Field) -> Result<(), CaseError> {
     match field {
         Field::Words(text) => put_text(out, b"words", text.as_slice()),
         Field::Title(text) => put_text(out, b"title", text.as_slice()),
@@ -60,7 +61,7 @@ fn put_written(out: &mut Report, field: &Field) -> Result<(), Memory> {
 }
 
 /// Adds `key` and the signs of a whole key, or `adds` and the added signs; then the clef.
-fn put_key_text(out: &mut Report, text: &KeyText) -> Result<(), Memory> {
+fn put_key_text(out: &mut Report, text: &KeyText) -> Result<(), CaseError> {
     match &text.key {
         Some(key) => put_signs(out, b"key", key.signs.as_slice())?,
         None => put_signs(out, b"adds", text.adds.as_slice())?,
@@ -72,7 +73,7 @@ fn put_key_text(out: &mut Report, text: &KeyText) -> Result<(), Memory> {
 }
 
 /// Adds `voice`, its id, its clef if it names one, and its stem direction.
-pub(crate) fn put_voice(out: &mut Report, voice: &VoiceDef) -> Result<(), Memory> {
+pub(crate) fn put_voice(out: &mut Report, voice: &VoiceDef) -> Result<(), CaseError> {
     put_text(out, b"voice", voice.id.as_slice())?;
     if let Some(clef) = voice.clef {
         put_clef(out, clef)?;
@@ -81,7 +82,7 @@ pub(crate) fn put_voice(out: &mut Report, voice: &VoiceDef) -> Result<(), Memory
 }
 
 /// Adds `breaks` and the names of the breaks that are on.
-pub(crate) fn put_breaks(out: &mut Report, breaks: Breaks) -> Result<(), Memory> {
+pub(crate) fn put_breaks(out: &mut Report, breaks: Breaks) -> Result<(), CaseError> {
     out.next(b"breaks")?;
     out.flag(breaks.eol, b"eol")?;
     out.flag(breaks.dollar, b"dollar")?;

@@ -1,8 +1,7 @@
 //! Runs the calls that read a book up to its tokens, fields, headers and paper, and those on the values, pitches and
 //! keys that they build on; then those that make a score and those that ask about one: its events with their
-//! durations and onsets, the keys of columns, slurs and ties, syllables on notes, the transposed score. Each line of
-//! the tables in its folder is a case: a call, an argument, and an input, which for a score is mostly a book of one
-//! tune. The line is written again with the call's value below it.
+//! durations and onsets, the keys of columns, slurs and ties, syllables on notes, the transposed score. The cases
+//! are in the tables of its folder; the input of one that makes a score is mostly a book of one tune.
 #![tactic(auto)]
 
 mod arcs;
@@ -23,11 +22,11 @@ mod tunes;
 mod units;
 
 use crate::calls::ReadingCalls;
-use case_texts::tell_tables;
+use case_texts::{Tally, check_tables};
 use std::io;
 use std::rt::Files;
 
-/// The tables, in the order in which they are reported.
+/// The tables, in the order in which they are checked.
 const TABLES: [&str; 14] = [
     "reading/books",
     "reading/music",
@@ -45,7 +44,7 @@ const TABLES: [&str; 14] = [
     "reading/moves",
 ];
 
-/// Reports each case of the tables.
-pub fn tell_reading<R: Files + Print + AllocGlobal>(rt: &R) -> io::Result<()> {
-    tell_tables(rt, &ReadingCalls, &TABLES)
+/// Checks each case of the tables.
+pub fn check_reading<R: Files + Print + AllocGlobal>(rt: &R) -> io::Result<Tally> {
+    check_tables(rt, &ReadingCalls, &TABLES)
 }

@@ -1,11 +1,12 @@
 use crate::events::put_event;
-use case_texts::{Report, put_bar, put_clef, put_meter, put_signs, put_spread, put_wish};
+use case_texts::{
+    CaseError, Report, put_bar, put_clef, put_meter, put_signs, put_spread, put_wish,
+};
 use mus_score::{Measure, Music, Score, Voice, is_plain};
-use mus_units::Memory;
 
 /// Adds a score: a line of its own, then for each voice a line of what it begins with, and a
 /// line for each node and each bar of its measures.
-pub(crate) fn put_score(out: &mut Report, score: &Score) -> Result<(), Memory> {
+pub(crate) fn put_score(out: &mut Report, score: &Score) -> Result<(), CaseError> {
     put_head(out, score)?;
     for voice in score.voices.as_slice() {
         put_voice(out, voice)?;
@@ -13,14 +14,14 @@ pub(crate) fn put_score(out: &mut Report, score: &Score) -> Result<(), Memory> {
     Ok(())
 }
 
-fn put_head(out: &mut Report, score: &Score) -> Result<(), Memory> {
+fn put_head(out: &mut Report, score: &Score) -> Result<(), CaseError> {
     out.line_number(b"measures ", score.measures)?;
     out.next(b"forced")?;
     out.tell_all(score.forced.as_slice())?;
     put_spread(out, score.spread)
 }
 
-fn put_opening(out: &mut Report, voice: &Voice) -> Result<(), Memory> {
+fn put_opening(out: &mut Report, voice: &Voice) -> Result<(), CaseError> {
     out.line(b"voice ")?;
     out.append(voice.id.as_slice())?;
     put_clef(out, voice.clef)?;
@@ -29,7 +30,7 @@ fn put_opening(out: &mut Report, voice: &Voice) -> Result<(), Memory> {
     put_wish(out, voice.stem)
 }
 
-fn put_voice(out: &mut Report, voice: &Voice) -> Result<(), Memory> {
+fn put_voice(out: &mut Report, voice: &Voice) -> Result<(), CaseError> {
     put_opening(out, voice)?;
     out.next_number(b"verses ", voice.verses)?;
     out.next(b"first:")?;
@@ -37,7 +38,7 @@ fn put_voice(out: &mut Report, voice: &Voice) -> Result<(), Memory> {
     put_measures(out, voice.measures.as_slice())
 }
 
-fn put_measures(out: &mut Report, measures: &[Measure]) -> Result<(), Memory> {
+fn put_measures(out: &mut Report, measures: &[Measure]) -> Result<(), CaseError> {
     for measure in measures {
         put_nodes(out, measure.body.as_slice())?;
         out.line(b"bar:")?;
@@ -47,7 +48,7 @@ fn put_measures(out: &mut Report, measures: &[Measure]) -> Result<(), Memory> {
 }
 
 #[cycle(nodes)]
-fn put_nodes(out: &mut Report, body: &[Music]) -> Result<(), Memory> {
+fn put_nodes(out: &mut Report, body: &[Music]) -> Result<(), CaseError> {
     for node in body {
         put_node(out, node)?;
     }
@@ -55,7 +56,7 @@ fn put_nodes(out: &mut Report, body: &[Music]) -> Result<(), Memory> {
 }
 
 #[cycle(nodes)]
-fn put_node(out: &mut Report, node: &Music) -> Result<(), Memory> {
+fn put_node(out: &mut Report, node: &Music) -> Result<(), CaseError> {
     match node {
         Music::Note(event) => put_event(out, b"note ", event),
         Music::Rest(event) => put_event(out, b"rest ", event),
@@ -74,7 +75,7 @@ fn put_node(out: &mut Report, node: &Music) -> Result<(), Memory> {
 }
 
 /// Adds whether a score is plain.
-pub(crate) fn put_plainness(out: &mut Report, score: &Score) -> Result<(), Memory> {
+pub(crate) fn put_plainness(out: &mut Report, score: &Score) -> Result<(), CaseError> {
     out.show(if is_plain(score) {
         "plain"
     } else {

@@ -4,17 +4,16 @@ ghost use Rattle.{abc_lines.specs.Good.{IsGoodBook}, set_lists.specs.Listing.{Ar
 
 use abc_fields::{body_of, read_paper};
 use abc_lines::{Book, cut_book};
-use case_texts::{Report, count_at, numbers_of, put_breaking, put_placed, put_spans};
+use case_texts::{CaseError, Report, number_of, put_breaking, put_placed, put_spans};
 use eng_jobs::Jobs;
 use lay_pages::TitleBlock;
-use mus_units::{Memory, Size};
+use mus_units::Size;
 use set_book::{NoGate, Outcome, set_all};
 use set_lists::{
     fault_count, has_fault, outcomes_are_listable, put_listing, put_reports, put_systems,
     set_count, system_count, total_of,
 };
 use set_tune::{How, SetTune};
-use std::alloc::Global;
 use std::thread::Threads;
 
 pub(crate) fn size_name(size: Size) -> &'static str {
@@ -24,7 +23,7 @@ pub(crate) fn size_name(size: Size) -> &'static str {
     }
 }
 
-fn put_title(out: &mut Report, title: &TitleBlock) -> Result<(), Memory> {
+fn put_title(out: &mut Report, title: &TitleBlock) -> Result<(), CaseError> {
     for row in title.rows.as_slice() {
         out.tell(format_args!("row {} {} {}", size_name(row.size), row.x, row.down))?;
         out.next(row.text.as_slice())?;
@@ -34,7 +33,7 @@ fn put_title(out: &mut Report, title: &TitleBlock) -> Result<(), Memory> {
 }
 
 /// Adds a tune that is set: its title rows, its spans, its breaking and its systems.
-fn put_set(out: &mut Report, set: &SetTune) -> Result<(), Memory> {
+fn put_set(out: &mut Report, set: &SetTune) -> Result<(), CaseError> {
     put_title(out, &set.title)?;
     put_spans(out, set.spans.as_slice())?;
     put_breaking(out, &set.breaking)?;
@@ -44,18 +43,18 @@ fn put_set(out: &mut Report, set: &SetTune) -> Result<(), Memory> {
     Ok(())
 }
 
-fn put_outcomes(out: &mut Report, outcomes: &[Outcome]) -> Result<(), Memory> {
+fn put_outcomes(out: &mut Report, outcomes: &[Outcome]) -> Result<(), CaseError> {
     for outcome in outcomes {
         out.tell(format_args!("tune {}\n", outcome.ordinal))?;
         if let Ok(set) = &outcome.result {
             put_set(out, set)?;
         }
     }
-    put_reports(&mut out.text, outcomes)
+    Ok(put_reports(&mut out.text, outcomes)?)
 }
 
 /// Adds how many tunes are set and how many have a fault, how many systems there are, and their total.
-fn put_counts(out: &mut Report, outcomes: &[Outcome]) -> Result<(), Memory> {
+fn put_counts(out: &mut Report, outcomes: &[Outcome]) -> Result<(), CaseError> {
     out.next_number(b"set ", set_count(outcomes))?;
     out.next_number(b"refused ", fault_count(outcomes))?;
     out.next_number(b"systems ", system_count(outcomes))?;
@@ -66,13 +65,13 @@ fn put_counts(out: &mut Report, outcomes: &[Outcome]) -> Result<(), Memory> {
 
 /// Adds the outcomes of a book: each tune that is set, the reports of faults, and the counts; then the systems,
 /// and the listing.
-fn put_told(out: &mut Report, outcomes: &[Outcome]) -> Result<(), Memory>
+fn put_told(out: &mut Report, outcomes: &[Outcome]) -> Result<(), CaseError>
     requires { AreListable outcomes.now }
 {
     put_outcomes(out, outcomes)?;
     put_counts(out, outcomes)?;
     put_systems(&mut out.text, outcomes)?;
-    put_listing(&mut out.text, outcomes)
+    Ok(put_listing(&mut out.text, outcomes)?)
 }
 
 /// Adds the body of a book's paper, and its outcomes by jobs.
@@ -81,7 +80,7 @@ fn put_set_book<R: Threads + Sync>(
     out: &mut Report,
     book: &Book,
     jobs: Jobs,
-) -> Result<(), Memory>
+) -> Result<(), CaseError>
     requires { IsGoodBook book.now }
 {
     let paper = read_paper(book);
@@ -98,18 +97,12 @@ pub(crate) fn put_book<R: Threads + Sync>(
     rt: &R,
     out: &mut Report,
     words: &str,
-    text: &str,
-) -> Result<(), Memory> {
-    let count = first_of(out.alloc, words)?;
+    text: &[u8],
+) -> Result<(), CaseError> {
+    let count = number_of::<u8>(words)?;
     if count < 1 || count > 64 || text.len() > 1_000_000 {
         return out.next(b"no jobs\n");
     }
-    let book = cut_book(out.alloc, text.as_bytes())?;
+    let book = cut_book(out.alloc, text)?;
     put_set_book(rt, out, &book, Jobs { count })
-}
-
-/// Returns the first number of a text, or 1 if it isn't one of 8 bits.
-fn first_of(alloc: Global, words: &str) -> Result<u8, Memory> {
-    let numbers = numbers_of(alloc, words)?;
-    Ok(u8::try_from(count_at(&numbers, 0)).unwrap_or(1))
 }

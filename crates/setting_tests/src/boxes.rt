@@ -3,14 +3,13 @@
 ghost use Rattle.{std.specs.Prelude.{All}, mus_laid.specs.Boxes.{AreGoodMarks}};
 
 use crate::marks::put_laid;
-use case_texts::Report;
+use case_texts::{CaseError, Report};
 use mus_laid::{
     Laid, Sides, StaffMarks, SystemMarks, heights_of, printed, printed_within, sides_of,
     staff_heights,
 };
-use mus_units::Memory;
 
-fn put_boxes(out: &mut Report, marks: &[Laid]) -> Result<(), Memory>
+fn put_boxes(out: &mut Report, marks: &[Laid]) -> Result<(), CaseError>
     requires { AreGoodMarks marks.now }
 {
     for laid in marks {
@@ -22,7 +21,7 @@ fn put_boxes(out: &mut Report, marks: &[Laid]) -> Result<(), Memory>
     Ok(())
 }
 
-fn put_sides(out: &mut Report, sides: Option<Sides>) -> Result<(), Memory> {
+fn put_sides(out: &mut Report, sides: Option<Sides>) -> Result<(), CaseError> {
     match sides {
         Some(sides) => out.tell_all(&[sides.left, sides.right])?,
         None => out.next(b"without sides")?,
@@ -32,13 +31,13 @@ fn put_sides(out: &mut Report, sides: Option<Sides>) -> Result<(), Memory> {
 
 /// Adds for each staff a line of its heights and one for each mark, with the heights of its box and how far
 /// it reaches to the left and to the right.
-pub(crate) fn put_system_boxes(out: &mut Report, system: &SystemMarks) -> Result<(), Memory>
+pub(crate) fn put_system_boxes(out: &mut Report, system: &SystemMarks) -> Result<(), CaseError>
     requires { All (λ staff. AreGoodMarks staff.marks) system.now.staves }
 {
     put_staff_boxes(out, system.staves.as_slice())
 }
 
-fn put_staff_boxes(out: &mut Report, staves: &[StaffMarks]) -> Result<(), Memory>
+fn put_staff_boxes(out: &mut Report, staves: &[StaffMarks]) -> Result<(), CaseError>
     requires { All (λ staff. AreGoodMarks staff.marks) staves.now }
 {
     for staff in staves {
@@ -50,7 +49,7 @@ fn put_staff_boxes(out: &mut Report, staves: &[StaffMarks]) -> Result<(), Memory
 }
 
 /// Adds what is printed of a text, and what is printed of it within a number of characters.
-pub(crate) fn put_printed(out: &mut Report, most: usize, text: &[u8]) -> Result<(), Memory> {
+pub(crate) fn put_printed(out: &mut Report, most: usize, text: &[u8]) -> Result<(), CaseError> {
     out.next(printed(out.alloc, text)?.as_slice())?;
     out.end_line()?;
     out.next(printed_within(out.alloc, most, text)?.as_slice())?;

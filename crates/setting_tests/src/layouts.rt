@@ -3,15 +3,14 @@
 ghost use Rattle.mus_score.specs.GoodScore.{IsGoodScore};
 
 use crate::marks::put_system;
-use case_texts::{Report, put_breaking, put_heights, put_no_way, put_placed, put_spans};
+use case_texts::{CaseError, Report, put_breaking, put_heights, put_no_way, put_placed, put_spans};
 use eng_jobs::Jobs;
 use lay_tune::{Layout, LayoutError, lay_out};
 use mus_score::Score;
-use mus_units::Memory;
 use std::thread::Threads;
 
 /// Adds a layout: its spans, its breaking, and each system with its columns and its staves.
-fn put_layout(out: &mut Report, layout: &Layout) -> Result<(), Memory> {
+fn put_layout(out: &mut Report, layout: &Layout) -> Result<(), CaseError> {
     put_spans(out, layout.spans.as_slice())?;
     put_breaking(out, &layout.breaking)?;
     let placed = layout.placed.as_slice();
@@ -25,7 +24,7 @@ fn put_layout(out: &mut Report, layout: &Layout) -> Result<(), Memory> {
 }
 
 /// Adds the systems of a layout with all that they draw.
-fn put_systems(out: &mut Report, layout: &Layout) -> Result<(), Memory> {
+fn put_systems(out: &mut Report, layout: &Layout) -> Result<(), CaseError> {
     for system in layout.systems.as_slice() {
         out.tell(format_args!("system {} {}\n", system.a, system.b))?;
         put_system(out, system)?;
@@ -33,7 +32,7 @@ fn put_systems(out: &mut Report, layout: &Layout) -> Result<(), Memory> {
     Ok(())
 }
 
-fn put_laid_out(out: &mut Report, layout: &Layout, drawn: bool) -> Result<(), Memory> {
+fn put_laid_out(out: &mut Report, layout: &Layout, drawn: bool) -> Result<(), CaseError> {
     if drawn {
         put_systems(out, layout)
     } else {
@@ -48,7 +47,7 @@ pub(crate) fn put_score_layout<R: Threads + Sync>(
     score: &Score,
     width: u32,
     drawn: bool,
-) -> Result<(), Memory>
+) -> Result<(), CaseError>
     requires { IsGoodScore score.now }
 {
     if score.voices.len() == 0 {
@@ -57,6 +56,6 @@ pub(crate) fn put_score_layout<R: Threads + Sync>(
     match lay_out(rt, out.alloc, score, width, Jobs { count: 2 }) {
         Ok(layout) => put_laid_out(out, &layout, drawn),
         Err(LayoutError::NoWay { reached }) => put_no_way(out, reached),
-        Err(LayoutError::Memory) => Err(Memory),
+        Err(LayoutError::Memory) => Err(CaseError::Memory),
     }
 }

@@ -1,5 +1,5 @@
-//! Draws and sets what the cases in `setting/cases` call for, works on items by jobs, and prints each call's value
-//! as text. `calls` has the names.
+//! Makes the calls that the cases of setting name: stems, marks, columns, sounds and layouts of tunes, books set by
+//! jobs, and work done by jobs. `calls` has the names.
 #![tactic(auto)]
 
 mod books;
@@ -16,17 +16,26 @@ mod slopes;
 mod sounds;
 mod voices;
 
-use crate::calls::put_answer;
-use case_texts::{Report, put_out, text_case, told};
+use crate::calls::SettingCalls;
+use case_texts::{Tally, check_tables};
 use lay_columns::measures_join;
 use mus_bridges::beams_by_levels;
 use mus_stems::{beams_by_groups, no_other_plans, slopes_by_beams};
-use mus_units::{Memory, Text};
 use set_lists::{book_rises, breakings_of_listing, lists_the_set};
-use std::alloc::Global;
+use std::io;
 use std::rt::Files;
 use std::thread::Threads;
-use std::{fs, io};
+
+/// The tables, in the order in which they are checked.
+const TABLES: [&str; 7] = [
+    "setting/stems",
+    "setting/marks",
+    "setting/columns",
+    "setting/sounds",
+    "setting/layouts",
+    "setting/books",
+    "setting/jobs",
+];
 
 /// Makes the calls that do nothing: the contract of each is a law.
 fn state_laws() {
@@ -40,24 +49,8 @@ fn state_laws() {
     breakings_of_listing();
 }
 
-/// Returns a case's line, followed by the value of its call.
-fn answer<R: Threads + Sync>(rt: &R, alloc: Global, text: &str) -> Result<Text, Memory> {
-    let (line, case) = text_case(text);
-    let mut value = Report::new(alloc);
-    put_answer(rt, &mut value, case)?;
-    told(alloc, line, b"\n", value.text.as_slice())
-}
-
-/// Reports each case.
-pub fn tell_setting<R: Files + Print + AllocGlobal + Threads + Sync>(rt: &R) -> io::Result<()> {
+/// Checks each case of the tables.
+pub fn check_setting<R: Files + Print + AllocGlobal + Threads + Sync>(rt: &R) -> io::Result<Tally> {
     state_laws();
-    let cases = fs::read_to_string(rt, "setting/cases")?;
-    tell_cases(rt, cases.as_str())
-}
-
-fn tell_cases<R: Print + AllocGlobal + Threads + Sync>(rt: &R, cases: &str) -> io::Result<()> {
-    for text in cases.split("\n\n") {
-        put_out(rt, answer(rt, rt.alloc(), text))?;
-    }
-    Ok(())
+    check_tables(rt, &SettingCalls { rt }, &TABLES)
 }

@@ -1,10 +1,10 @@
 //! The marks of a system.
 
 use crate::books::size_name;
-use case_texts::{Report, put_key};
+use case_texts::{CaseError, Report, put_key};
 use glyph_paths::name_of;
 use mus_laid::{Laid, Lane, Mark, StaffMarks, SystemMarks};
-use mus_units::{Glyph, Memory, Size, Text, Way};
+use mus_units::{Glyph, Size, Text, Way};
 
 fn way_name(way: Way) -> &'static str {
     match way {
@@ -15,7 +15,7 @@ fn way_name(way: Way) -> &'static str {
 }
 
 /// Adds the name of a lane; one of a verse has its number.
-fn put_lane(out: &mut Report, lane: Lane) -> Result<(), Memory> {
+fn put_lane(out: &mut Report, lane: Lane) -> Result<(), CaseError> {
     match lane {
         Lane::Main => out.next(b"main"),
         Lane::Above => out.next(b"above"),
@@ -25,7 +25,7 @@ fn put_lane(out: &mut Report, lane: Lane) -> Result<(), Memory> {
     }
 }
 
-fn put_glyph(out: &mut Report, glyph: Glyph, rank: u32, dx: i32, dy: i32) -> Result<(), Memory> {
+fn put_glyph(out: &mut Report, glyph: Glyph, rank: u32, dx: i32, dy: i32) -> Result<(), CaseError> {
     out.next(b"glyph")?;
     out.next(name_of(glyph))?;
     out.tell(format_args!("{rank} {dx} {dy}"))
@@ -38,7 +38,7 @@ fn put_words(
     dx: i32,
     dy: i32,
     text: &Text,
-) -> Result<(), Memory> {
+) -> Result<(), CaseError> {
     out.tell(format_args!("{} {rank} {dx} {dy}", size_name(size)))?;
     out.next(text.as_slice())
 }
@@ -50,12 +50,12 @@ fn put_beam(
     last: u32,
     from: i32,
     to: i32,
-) -> Result<(), Memory> {
+) -> Result<(), CaseError> {
     out.tell(format_args!("beam {} {first} {last} {from} {to}", way_name(way)))
 }
 
 /// Adds a mark: its kind, its ranks, and its places in u.
-fn put_mark(out: &mut Report, mark: &Mark) -> Result<(), Memory> {
+fn put_mark(out: &mut Report, mark: &Mark) -> Result<(), CaseError> {
     match mark {
         Mark::Glyph {
             glyph,
@@ -91,12 +91,12 @@ fn put_mark(out: &mut Report, mark: &Mark) -> Result<(), Memory> {
 }
 
 /// Adds the lane of a mark, and the mark.
-pub(crate) fn put_laid(out: &mut Report, laid: &Laid) -> Result<(), Memory> {
+pub(crate) fn put_laid(out: &mut Report, laid: &Laid) -> Result<(), CaseError> {
     put_lane(out, laid.lane)?;
     put_mark(out, &laid.mark)
 }
 
-fn put_staff(out: &mut Report, staff: &StaffMarks) -> Result<(), Memory> {
+fn put_staff(out: &mut Report, staff: &StaffMarks) -> Result<(), CaseError> {
     out.tell(format_args!("staff {} {}\n", staff.low, staff.high))?;
     for laid in staff.marks.as_slice() {
         put_laid(out, laid)?;
@@ -106,7 +106,7 @@ fn put_staff(out: &mut Report, staff: &StaffMarks) -> Result<(), Memory> {
 }
 
 /// Adds a line for each key of a system, and for each staff a line of its heights and one for each mark.
-pub(crate) fn put_system(out: &mut Report, system: &SystemMarks) -> Result<(), Memory> {
+pub(crate) fn put_system(out: &mut Report, system: &SystemMarks) -> Result<(), CaseError> {
     for key in system.keys.as_slice() {
         out.next(b"key")?;
         put_key(out, *key)?;

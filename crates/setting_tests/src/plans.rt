@@ -6,12 +6,12 @@ ghost use Rattle.mus_score.specs.GoodScore.{IsGoodScore, IsGoodVoice};
 ghost use Rattle.mus_stems.specs.Heads.{AllNear, IsNearStaff, stand_of};
 ghost use Rattle.mus_stems.specs.Stills.{AllCanStand, CanDrawEvent, clefs_from};
 
-use case_texts::Report;
+use case_texts::{CaseError, Report};
 use mus_score::{Flat, Measure, Score, Voice, flatten};
 use mus_stems::{Spot, StemPlan, stems};
-use mus_units::{Clef, Head, Memory, Wish, height};
+use mus_units::{Clef, Head, Wish, height};
 
-fn put_sign_places(out: &mut Report, signs: &[Option<i32>]) -> Result<(), Memory> {
+fn put_sign_places(out: &mut Report, signs: &[Option<i32>]) -> Result<(), CaseError> {
     out.next(b"signs")?;
     for sign in signs {
         match sign {
@@ -22,7 +22,7 @@ fn put_sign_places(out: &mut Report, signs: &[Option<i32>]) -> Result<(), Memory
     Ok(())
 }
 
-fn put_spots(out: &mut Report, spots: &[Spot]) -> Result<(), Memory> {
+fn put_spots(out: &mut Report, spots: &[Spot]) -> Result<(), CaseError> {
     out.next(b"dots")?;
     for spot in spots {
         out.tell_all(&[spot.dx, spot.dy])?;
@@ -30,7 +30,7 @@ fn put_spots(out: &mut Report, spots: &[Spot]) -> Result<(), Memory> {
     Ok(())
 }
 
-fn put_stem(out: &mut Report, plan: &StemPlan) -> Result<(), Memory> {
+fn put_stem(out: &mut Report, plan: &StemPlan) -> Result<(), CaseError> {
     out.tell(if plan.up { "up" } else { "down" })?;
     out.tell(if plan.has { "stem" } else { "none" })?;
     out.tell_all(&[plan.from, plan.to, plan.own])?;
@@ -40,7 +40,7 @@ fn put_stem(out: &mut Report, plan: &StemPlan) -> Result<(), Memory> {
 
 /// Adds a line for each plan: the direction of its stem, whether it has one, where the stem begins and ends and where
 /// it would end by itself, its group and its flags; then the places of its heads, signs, ledger lines and dots.
-pub(crate) fn put_plans(out: &mut Report, plans: &[StemPlan]) -> Result<(), Memory> {
+pub(crate) fn put_plans(out: &mut Report, plans: &[StemPlan]) -> Result<(), CaseError> {
     for plan in plans {
         put_stem(out, plan)?;
         out.next(b"shifts")?;
@@ -100,7 +100,7 @@ fn put_measure_plans(
     measure: &Measure,
     clef: Clef,
     wish: Wish,
-) -> Result<(), Memory>
+) -> Result<(), CaseError>
     requires { IsGoodBody measure.now.body }
 {
     let alloc = out.alloc;
@@ -112,7 +112,7 @@ fn put_measure_plans(
     put_plans(out, plans.as_slice())
 }
 
-fn put_voice_plans(out: &mut Report, voice: &Voice) -> Result<(), Memory>
+fn put_voice_plans(out: &mut Report, voice: &Voice) -> Result<(), CaseError>
     requires { IsGoodVoice voice.now }
 {
     for measure in voice.measures.as_slice() {
@@ -122,7 +122,7 @@ fn put_voice_plans(out: &mut Report, voice: &Voice) -> Result<(), Memory>
     Ok(())
 }
 
-fn put_all_plans(out: &mut Report, voices: &[Voice]) -> Result<(), Memory>
+fn put_all_plans(out: &mut Report, voices: &[Voice]) -> Result<(), CaseError>
     requires { All IsGoodVoice voices.now }
 {
     for voice in voices {
@@ -132,7 +132,7 @@ fn put_all_plans(out: &mut Report, voices: &[Voice]) -> Result<(), Memory>
 }
 
 /// Adds the plans of each measure of each voice, in the voice's first clef.
-pub(crate) fn put_score_plans(out: &mut Report, score: &Score) -> Result<(), Memory>
+pub(crate) fn put_score_plans(out: &mut Report, score: &Score) -> Result<(), CaseError>
     requires { IsGoodScore score.now }
 {
     put_all_plans(out, score.voices.as_slice())

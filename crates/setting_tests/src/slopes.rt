@@ -9,12 +9,11 @@ ghost use Rattle.setting_tests.specs.Rising.{AreRisingNumbers, AreNumbersRisingF
 
 use crate::marks::put_system;
 use crate::plans::{can_all_stand, put_plans};
-use case_texts::Report;
+use case_texts::{CaseError, Report};
 use mus_marks::{marks, tilt};
 use mus_onsets::onsets;
 use mus_score::{Measure, Score, Voice, flatten};
 use mus_stems::{StemPlan, slope, stems};
-use mus_units::Memory;
 
 /// Returns whether each number can be an abscissa.
 fn are_places(at: &[i64]) -> bool
@@ -53,7 +52,7 @@ fn are_rising(at: &[i64]) -> bool
 }
 
 #[tactic(auto, using(crate::proofs::Rises::rises_in_beams))]
-fn put_sloped(out: &mut Report, plans: &[StemPlan], at: &[i64]) -> Result<(), Memory>
+fn put_sloped(out: &mut Report, plans: &[StemPlan], at: &[i64]) -> Result<(), CaseError>
     requires { AllEndsNear plans.now }
 {
     if at.len() != plans.len() || !are_places(at) || !are_rising(at) {
@@ -68,7 +67,7 @@ fn put_measure_slopes(
     voice: &Voice,
     measure: &Measure,
     at: &[i64],
-) -> Result<(), Memory>
+) -> Result<(), CaseError>
     requires { IsGoodBody measure.now.body }
 {
     let alloc = out.alloc;
@@ -80,7 +79,7 @@ fn put_measure_slopes(
     put_sloped(out, plans.as_slice(), at)
 }
 
-fn put_voice_slopes(out: &mut Report, voice: &Voice, at: &[i64]) -> Result<(), Memory>
+fn put_voice_slopes(out: &mut Report, voice: &Voice, at: &[i64]) -> Result<(), CaseError>
     requires { IsGoodVoice voice.now }
 {
     match voice.measures.as_slice() {
@@ -90,7 +89,7 @@ fn put_voice_slopes(out: &mut Report, voice: &Voice, at: &[i64]) -> Result<(), M
 }
 
 /// Adds the plans of the first measure of the first voice on sloped beams, with its events at these abscissas.
-pub(crate) fn put_slopes(out: &mut Report, score: &Score, at: &[i64]) -> Result<(), Memory>
+pub(crate) fn put_slopes(out: &mut Report, score: &Score, at: &[i64]) -> Result<(), CaseError>
     requires { IsGoodScore score.now }
 {
     match score.voices.as_slice() {
@@ -107,7 +106,7 @@ pub(crate) fn put_tilted(
     a: u32,
     b: u32,
     at: &[i64],
-) -> Result<(), Memory>
+) -> Result<(), CaseError>
     requires { IsGoodScore score.now }
 {
     if a >= b || b > score.measures {

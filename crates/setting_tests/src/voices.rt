@@ -1,10 +1,9 @@
 //! Voices as they are drawn.
 
-use case_texts::{Report, put_clef, put_meter, put_signs};
+use case_texts::{CaseError, Report, put_clef, put_meter, put_signs};
 use mus_drawn::{DrawnEvent, DrawnMeasure, DrawnVoice, SystemOpening};
-use mus_units::Memory;
 
-fn put_opening(out: &mut Report, opening: &SystemOpening) -> Result<(), Memory> {
+fn put_opening(out: &mut Report, opening: &SystemOpening) -> Result<(), CaseError> {
     out.next(b"measure")?;
     put_clef(out, opening.clef)?;
     put_meter(out, opening.meter)?;
@@ -13,7 +12,7 @@ fn put_opening(out: &mut Report, opening: &SystemOpening) -> Result<(), Memory> 
     out.end_line()
 }
 
-fn put_event(out: &mut Report, event: &DrawnEvent<'_>) -> Result<(), Memory> {
+fn put_event(out: &mut Report, event: &DrawnEvent<'_>) -> Result<(), CaseError> {
     out.next_number(b"event ", event.flat.event().id)?;
     out.tell(event.tick)?;
     put_clef(out, event.clef)?;
@@ -21,7 +20,7 @@ fn put_event(out: &mut Report, event: &DrawnEvent<'_>) -> Result<(), Memory> {
     out.end_line()
 }
 
-fn put_measure(out: &mut Report, measure: &DrawnMeasure<'_>) -> Result<(), Memory> {
+fn put_measure(out: &mut Report, measure: &DrawnMeasure<'_>) -> Result<(), CaseError> {
     put_opening(out, &measure.opening)?;
     for event in measure.events.as_slice() {
         put_event(out, event)?;
@@ -31,7 +30,7 @@ fn put_measure(out: &mut Report, measure: &DrawnMeasure<'_>) -> Result<(), Memor
 
 /// Adds for each voice a line of its verses and its arcs, and for each measure a line of what opens a system there
 /// and a line for each event: its id, its tick, its clef, and the key before it that it changes.
-pub(crate) fn put_voices(out: &mut Report, voices: &[DrawnVoice<'_>]) -> Result<(), Memory> {
+pub(crate) fn put_voices(out: &mut Report, voices: &[DrawnVoice<'_>]) -> Result<(), CaseError> {
     for voice in voices {
         out.tell(format_args!("voice {} {}\n", voice.verses, voice.arcs.len()))?;
         for measure in voice.measures.as_slice() {
