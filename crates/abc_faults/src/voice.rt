@@ -93,7 +93,7 @@ fn is_off(clef: Clef, head: Head) -> bool
     ensures { result ≡ is_off clef head }
 {
     let height = height(head.pitch, clef);
-    height < LOWEST_HEAD || HIGHEST_HEAD < height
+    height < i64::from(LOWEST_HEAD) || i64::from(HIGHEST_HEAD) < height
 }
 
 fn any_off(clef: Clef, heads: &[Head]) -> bool

@@ -8,7 +8,7 @@ fn is_in_reach(clef: Clef, head: Head) -> bool
     ensures { result ≡ in_reach clef head }
 {
     let height = height(head.pitch, clef);
-    LOWEST_HEAD <= height && height <= HIGHEST_HEAD
+    i64::from(LOWEST_HEAD) <= height && height <= i64::from(HIGHEST_HEAD)
 }
 
 fn heads_in_reach(clef: Clef, heads: &[Head]) -> bool
