@@ -1,6 +1,6 @@
 //! Strings, as words are spelled in parentheses.
 
-ghost use Rattle.std.specs.Prelude.{codes};
+ghost use Rattle.std.specs.Prelude.{codes, ◌++◌};
 ghost use Rattle.std.specs.Prelude.{◌≡◌, ◌∷◌, ◌≤◌, true, false, IfOk};
 ghost use Rattle.ps_text.specs.Fields.{is_special};
 ghost use Rattle.ps_steps.specs.Tokens.{Front};
