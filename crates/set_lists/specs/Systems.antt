@@ -1,5 +1,4 @@
 -- The systems of a book: for each tune without a fault its line, and a line for each of its systems.
-use Prim.Native.Char.{code}
 use Rattle.std.specs.{Prelude.{ℕ, List, [], ◌∷◌, ◌++◌, codes, decimal, Result, Ok, Err, unwrap_or}, List.flat_map}
 use Rattle.abc_lines.specs.declared.fault.Fault.{Fault}
 use Rattle.mus_laid.specs.declared.laid.SystemMarks.{SystemMarks}
@@ -16,7 +15,7 @@ badness_in spans a b = unwrap_or (listed spans a b) 0
 -- a system: the bar before it and its last bar, its force as it counts, and its badness
 unfoldable pub listed_system : List Span → SystemMarks → Placed → List ℕ
 listed_system spans m p =
-    codes "system " ++ decimal m.a ++ code " " ∷ decimal m.b ++ codes " force " ++ decimal p.force
+    codes "system " ++ decimal m.a ++ codes " " ++ decimal m.b ++ codes " force " ++ decimal p.force
     ++ codes " badness " ++ decimal (badness_in spans m.a m.b) ++ codes "\n"
 
 -- the systems in order, each with the places of its columns
