@@ -16,6 +16,8 @@ mod made;
 mod painting;
 mod running;
 
+ghost use Rattle.std.specs.Thread.{IsSync};
+
 use crate::books::{put_book, put_shown};
 use crate::case::{RunCase, put_run, run_of};
 use crate::failing::put_failures;
@@ -44,6 +46,8 @@ struct CommandCalls<'a, R> {
 }
 
 impl<R: Host> Answers for CommandCalls<'_, R> {
+    ghost ready = { λ _. IsSync R.row };
+
     fn put_answer(&self, out: &mut Report, case: Case<'_>, input: &[u8]) -> Result<(), CaseError> {
         match case.call {
             "book" => put_book(self.rt, out, case.input, case.expected),

@@ -10,8 +10,12 @@ use std::{fs, io};
 
 /// The answers of a test crate to its cases.
 pub trait Answers {
+    // What the calls need: of some, that threads may share the runtime.
+    ghost ready: { Self → Type 0 };
+
     /// Adds the value of a case's call on its input, which denotes the given bytes.
-    fn put_answer(&self, out: &mut Report, case: Case<'_>, input: &[u8]) -> Result<(), CaseError>;
+    fn put_answer(&self, out: &mut Report, case: Case<'_>, input: &[u8]) -> Result<(), CaseError>
+        requires { ready self.now };
 }
 
 /// How many cases hold, and how many don't.
@@ -63,7 +67,9 @@ pub fn check_tables<R: Files + Print + AllocGlobal, A: Answers>(
     rt: &R,
     answers: &A,
     tables: &[&str],
-) -> io::Result<Tally> {
+) -> io::Result<Tally>
+    requires { A.ready answers.now }
+{
     let mut tally = Tally::none();
     for table in tables {
         let text = fs::read_to_string(rt, *table)?;
@@ -84,7 +90,9 @@ fn check_table<R: Print + AllocGlobal, A: Answers>(
     answers: &A,
     table: &str,
     text: &str,
-) -> io::Result<Tally> {
+) -> io::Result<Tally>
+    requires { A.ready answers.now }
+{
     let mut tally = Tally::none();
     let mut line: usize = 1;
     for paragraph in text.trim_end_matches('\n').split("\n\n") {
@@ -106,7 +114,9 @@ fn holds<R: Print + AllocGlobal, A: Answers>(
     answers: &A,
     place: Place<'_>,
     paragraph: &str,
-) -> io::Result<bool> {
+) -> io::Result<bool>
+    requires { A.ready answers.now }
+{
     match difference(rt.alloc(), answers, paragraph) {
         Ok(None) => Ok(true),
         Ok(Some(shown)) => {
@@ -131,7 +141,9 @@ fn difference<A: Answers>(
     alloc: Global,
     answers: &A,
     paragraph: &str,
-) -> Result<Option<Text>, CaseError> {
+) -> Result<Option<Text>, CaseError>
+    requires { A.ready answers.now }
+{
     let case = case_of(paragraph)?;
     let input = unescaped(alloc, case.input.as_bytes())?;
     let expected = unescaped(alloc, case.expected.as_bytes())?;

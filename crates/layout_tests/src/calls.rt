@@ -6,6 +6,8 @@
 //! `hear W PLACE`. The program: `commands`, `make N`. Streams: `source`, `sink`, `streams`. Rows that wait for each
 //! other: `meetings`.
 
+ghost use Rattle.std.specs.Thread.{IsSync};
+
 use crate::blocks::{put_even, put_fill, put_stack};
 use crate::commands::{put_commands, put_made};
 use crate::documents::{put_document, put_pages, put_written};
@@ -27,6 +29,8 @@ pub(crate) struct LayoutCalls<'a, R> {
 }
 
 impl<R: Threads + Sync> Answers for LayoutCalls<'_, R> {
+    ghost ready = { λ _. IsSync R.row };
+
     fn put_answer(&self, out: &mut Report, case: Case<'_>, input: &[u8]) -> Result<(), CaseError> {
         match case.call {
             "glyph" | "stem" | "beam" | "arc" => put_mark(out, case.call, case.word),
