@@ -7,11 +7,13 @@ Works on copies in folders with blanks in their names, and never proves: rt is a
 make, script and bash are used if they are there; a test without what it needs is reported as skipped. Prints the tests
 that fail, then how many hold, fail and are skipped, and ends with 1 if one fails.
 """
+import functools
 import glob
 import importlib.machinery
 import importlib.util
 import os
 import re
+import resource
 import shlex
 import shutil
 import signal
@@ -75,8 +77,13 @@ class Place:
     def run(self, command, **how):
         """Runs a command of sh in the folder, without a terminal."""
         env = {**os.environ, "PATH": f"{self.bin}:{os.environ['PATH']}"}
-        told = {"capture_output": True, "text": True, "stdin": subprocess.DEVNULL, "errors": "replace"}
-        return subprocess.run(["sh", "-c", command], cwd=self.folder, env=env, **{**told, **how})
+        usual = {"capture_output": True, "text": True, "stdin": subprocess.DEVNULL, "errors": "replace"}
+        return subprocess.run(["sh", "-c", command], cwd=self.folder, env=env, **{**usual, **how})
+
+    def limited(self, words, limit):
+        """Runs a program in at most so many bytes of memory."""
+        bound = functools.partial(resource.setrlimit, resource.RLIMIT_AS, (limit, limit))
+        return subprocess.run(words, stdin=subprocess.DEVNULL, capture_output=True, text=True, preexec_fn=bound)
 
     def on_terminal(self, command):
         """Returns what a terminal shows of a command and the line 'status N'."""
@@ -200,7 +207,7 @@ def program_ends_with_each_status(place):
         ("inspect < good.abc", 6, None, "not pages at line 1\n"),
         ("set < long", 7, None, ""),
         ("check < dearer.listing", 8, "notleast ", ""),
-        ("paint < unopened", 10, None, "halt at token 1: Restore\n"),
+        ("paint < unopened", 10, None, "halt at token 0: Restore\n"),
     ]
     place.write("unopened", "grestore")
     with open(f"{place.folder}/long", "wb") as it:
@@ -212,9 +219,12 @@ def program_ends_with_each_status(place):
         hold(ran.stderr.startswith(errors) if errors else not ran.stderr, (words, ran.stderr))
     # some of these limits leave memory for the program's start, but not for its words
     endings = set()
-    many = " ".join(["x" * 60_000] * 20)
-    for kilobytes in range(2000, 8000, 250):
-        ran = place.run(f"ulimit -v {kilobytes}; exec {shlex.quote(place.program)} {many}")
+    many = [place.program, *["x" * 60_000] * 20]
+    for limit in range(2_000_000, 10_000_000, 250_000):
+        try:
+            ran = place.limited(many, limit)
+        except OSError:
+            continue
         endings.add((ran.returncode, ran.stdout))
     hold((5, "") in endings and (2, "") in endings, endings)
 
