@@ -15,8 +15,7 @@ mod gates;
 mod made;
 mod painting;
 mod running;
-
-ghost use Rattle.std.specs.Thread.{IsSync};
+mod tables;
 
 use crate::books::{put_book, put_shown};
 use crate::case::{RunCase, put_run, run_of};
@@ -24,7 +23,8 @@ use crate::failing::put_failures;
 use crate::gates::{ran_counted, ran_meeting};
 use crate::painting::{put_document, put_program};
 use crate::running::{PIECE, Streams, ran};
-use case_texts::{Answers, Case, CaseError, Mistake, Report, Tally, check_tables};
+use crate::tables::check_tables;
+use case_texts::{Case, CaseError, Mistake, Report, Tally};
 pub use running::Host;
 use std::io;
 
@@ -39,24 +39,20 @@ const TABLES: [&str; 7] = [
     "commands/programs",
 ];
 
-/// The calls, with the files and the threads of their runs.
-#[derive(Drop)]
-struct CommandCalls<'a, R> {
-    rt: &'a R,
-}
-
-impl<R: Host> Answers for CommandCalls<'_, R> {
-    ghost ready = { λ _. IsSync R.row };
-
-    fn put_answer(&self, out: &mut Report, case: Case<'_>, input: &[u8]) -> Result<(), CaseError> {
-        match case.call {
-            "book" => put_book(self.rt, out, case.input, case.expected),
-            "show" => put_shown(self.rt, out, case.word, input),
-            "paint" => put_program(out, case.word, input),
-            "document" => put_document(self.rt, out, case.input),
-            "run" | "fail" | "count" | "meet" => put_of_run(self.rt, out, case),
-            _ => Err(CaseError::Wrong(Mistake::UnknownCall)),
-        }
+/// Adds the value of a case's call on its input, which denotes the given bytes.
+fn put_answer<R: Host>(
+    rt: &R,
+    out: &mut Report,
+    case: Case<'_>,
+    input: &[u8],
+) -> Result<(), CaseError> {
+    match case.call {
+        "book" => put_book(rt, out, case.input, case.expected),
+        "show" => put_shown(rt, out, case.word, input),
+        "paint" => put_program(out, case.word, input),
+        "document" => put_document(rt, out, case.input),
+        "run" | "fail" | "count" | "meet" => put_of_run(rt, out, case),
+        _ => Err(CaseError::Wrong(Mistake::UnknownCall)),
     }
 }
 
@@ -106,5 +102,5 @@ fn put_meeting<R: Host>(
 
 /// Checks each case of the tables.
 pub fn check_commands<R: Host>(rt: &R) -> io::Result<Tally> {
-    check_tables(rt, &CommandCalls { rt }, &TABLES)
+    check_tables(rt, &TABLES)
 }
