@@ -10,8 +10,8 @@ use Rattle.abc_steps.specs.Tuplets.{or_default}
 abbrev pub left_of : ℕ → ℕ → List ℕ → List ℕ
 left_of r events outer = if nat_lt events r then (r - events) ∷ outer else outer
 
--- what the tuplets opened in the measure up to a step still take, the innermost first, if so many events follow the
--- step; `earlier` says the same of the steps before it
+-- what the tuplets opened in the measure up to a step still take, the innermost first, given the number of events
+-- after the step; `earlier` says the same of the steps before it
 unfoldable pub left_at : Step → (ℕ → List ℕ) → ℕ → List ℕ
 left_at (Step.Sound s) earlier events = earlier (events + 1)
 left_at (Step.Measures seen count) earlier events = []

@@ -41,7 +41,7 @@ pub record ReadAll (most : ℕ) (s : Stream) (text : List ℕ) : Type 0 where
   pub within : length text ≤ most
   pub count : s.count_after ≡ s.count_before
 
--- at most so many bytes were taken
+-- at most this number of bytes was taken
 abbrev pub TookAtMost : ℕ → Stream → Type 0
 TookAtMost most s = (text : List ℕ) × Consumes s.before s.after text × (length text ≤ most)
 
