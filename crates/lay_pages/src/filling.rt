@@ -121,8 +121,9 @@ fn is_tall(high: u32, blocks: &[Block]) -> bool
     u128::from(high) < group_height(blocks)
 }
 
-/// Returns the number of the block with which the first group begins that is higher than a page.
-pub(crate) fn first_tall(blocks: &[Block], high: u32) -> Option<u32>
+/// Returns the number, from 0, of the block with which the first group begins that is higher than a page of `high` u,
+/// if there is one.
+pub fn first_tall(blocks: &[Block], high: u32) -> Option<u32>
     requires few { length blocks.now < 2 ^ 32 }
     requires good { AreGoodBlocks blocks.now }
     ensures { result ≡ first_tall high blocks.now }

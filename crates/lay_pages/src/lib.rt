@@ -8,7 +8,7 @@ pub mod stacking;
 pub mod titles;
 
 pub use even::{PageCosts, fill_even};
-pub use filling::{Block, PageError, PlacedBlock, Placement, Spot, fill, fill_after};
+pub use filling::{Block, PageError, PlacedBlock, Placement, Spot, fill, fill_after, first_tall};
 pub use mus_laid::{StaffMarks, SystemMarks};
 pub use stacking::{Heights, stack};
 pub use titles::{TitleBlock, TitleRow, title_block};

@@ -26,7 +26,7 @@ use abc_lines::{Fault, FaultKind, Line, TuneError, TuneText};
 use abc_score::build;
 use eng_jobs::Jobs;
 use law_transposition::moved_sounds_higher;
-use lay_pages::{PageError, TitleBlock, fill, title_block};
+use lay_pages::{TitleBlock, first_tall, title_block};
 use lay_shared::{Plan, drawn, read_plan, score_ids, shared};
 use lay_tune::{Layout, LayoutError, lay_out};
 use mus_score::Score;
@@ -297,11 +297,8 @@ fn on_pages(alloc: Global, tune: &TuneText, high: u32, laid: SetTune) -> Result<
     ensures tall { IfErr result (IsTallRefusal tune.now high laid) }
 {
     let blocks = blocks_of(alloc, &laid.title, laid.heights.as_slice())?;
-    match fill(alloc, blocks.as_slice(), high) {
-        Ok(_) => Ok(laid),
-        Err(PageError::TooTall { block }) => {
-            Err(layout_fault(tune, FaultKind::TooTall { block }))
-        }
-        Err(PageError::Memory) => Err(TuneError::Memory),
+    match first_tall(blocks.as_slice(), high) {
+        None => Ok(laid),
+        Some(block) => Err(layout_fault(tune, FaultKind::TooTall { block })),
     }
 }

@@ -7,8 +7,8 @@ blocks_of-requires c =
     subst (λ hs. All HasGoodHeight hs) (sym c.as_slice.ensures)
     (good_heights c.args.laid.score c.args.laid.systems c.args.laid.heights c.requires.laid.1.heights)
 
-pub fill-requires-clause-few : goal.fill-requires-clause-few
-fill-requires-clause-few c =
+pub first_tall-requires-clause-few : goal.first_tall-requires-clause-few
+first_tall-requires-clause-few c =
     subst (λ (blocks : List _). length blocks < 2 ^ 32)
     (sym (c.as_slice-2.ensures ∙ c.in_ok-blocks.ensures.value ∙ ap (blocks_of c.args.laid.title) c.as_slice.ensures))
     (few_blocks c.requires.laid.0 c.args.laid c.requires.good c.requires.laid.1)
