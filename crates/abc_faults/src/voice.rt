@@ -1,4 +1,4 @@
-ghost use Rattle.std.specs.Prelude.{◌≡◌, ◌≤◌, ◌^◌, ◌++◌, ◌∷◌, [], length, map, reverse, nat_lt, IfOk, OnOk};
+ghost use Rattle.std.specs.Prelude.{◌≡◌, ◌++◌, ◌∷◌, [], length, map, reverse, nat_lt, IfOk, OnOk};
 ghost use Rattle.std.specs.List.{All};
 ghost use Rattle.abc_steps.specs.{declared.step.Step.Step, Looks.since_event, Lengths.parts_at};
 ghost use Rattle.abc_faults.specs.First.{first_of};
@@ -13,9 +13,9 @@ use abc_lines::{Fault, FaultKind};
 use abc_music::GraceChord;
 use abc_steps::kinds::is_sound;
 use abc_steps::looks::{has_left, has_right, since_event};
-use abc_steps::state::{VoiceState, measure_of};
+use abc_steps::state::measure_of;
 use abc_steps::tuplets::{fits, or_default};
-use abc_steps::{OpenTuplets, PlacedStep, Step, StoredSound};
+use abc_steps::{OpenTuplets, PlacedStep, Step, StepContext, StoredSound};
 use mus_score::{HIGHEST_HEAD, LOWEST_HEAD, MEASURE_LIMIT};
 use mus_units::{Clef, Few, Head, Memory, Meter, Row, Value, height};
 
@@ -150,20 +150,14 @@ fn is_free(meter: Meter) -> bool
 /// Returns the first fault of a note, a chord or a rest, without its graces. `undrawable` is true if its length has
 /// no parts.
 #[tactic(auto, using(crate::proofs::Firsts::first_append))]
-fn sound_fault(
-    now: &VoiceState,
-    at: &PlacedStep,
-    s: &StoredSound,
-    undrawable: bool,
-) -> Option<Fault>
-    requires groups { now.now.counts.groups ≤ 2 ^ 30 }
-    requires further { now.now.counts.further ≤ 2 ^ 46 }
-    ensures { result ≡ first_of (sound_faults_if undrawable now.now at.now s.now) }
+fn sound_fault(step: &StepContext<'_>, s: &StoredSound, undrawable: bool) -> Option<Fault>
+    ensures { result ≡ first_of (sound_faults_if undrawable step.now.state.now step.now.at.now s.now) }
 {
+    let (state, at) = (step.state, step.at);
     let undrawn = fault_if(undrawable, FaultKind::Undrawable, at);
-    let off = any_off(now.force.clef, s.heads());
+    let off = any_off(state.force.clef, s.heads());
     let found = earlier(undrawn, fault_if(off, FaultKind::StepRange, at));
-    let past = fault_if(is_past(measure_of(now)), FaultKind::TooManyMeasures, at);
+    let past = fault_if(is_past(measure_of(state)), FaultKind::TooManyMeasures, at);
     earlier(found, past)
 }
 
@@ -173,47 +167,44 @@ unfolding(crate::specs::Faults::sound_faults, crate::specs::Weights::sound_count
 abc_steps::specs::Lengths::parts_at))]
 fn judge_sound(
     weights: &mut Row<Weight>,
-    now: &VoiceState,
-    before: &[PlacedStep],
-    at: &PlacedStep,
+    step: &StepContext<'_>,
     s: &StoredSound,
     parts: &Option<Few<Value>>,
-    following: &[PlacedStep],
 ) -> Result<Option<Fault>, Memory>
-    requires groups { now.now.counts.groups ≤ 2 ^ 30 }
-    requires further { now.now.counts.further ≤ 2 ^ 46 }
-    requires parts { parts.now ≡ parts_at now.now.force.unit (reverse before.now) (Step.Sound s.now) following.now }
+    requires parts { parts.now
+        ≡ parts_at step.now.state.now.force.unit (reverse step.now.before.now) (Step.Sound s.now)
+        step.now.following.now }
     ensures fault { IfOk result (λ f.
         f
         ≡ first_of
-        (sound_faults now.now (reverse before.now) at.now s.now following.now
-        ++ grace_faults now.now.force.clef (since_event (reverse before.now)))) }
+        (sound_faults step.now.state.now (reverse step.now.before.now) step.now.at.now s.now step.now.following.now
+        ++ grace_faults step.now.state.now.force.clef (since_event (reverse step.now.before.now)))) }
     ensures weights { OnOk result
         (weights.new
         ≡ weights.old
         ++ map capped
-        (grace_weights (since_event (reverse before.now))
-        ++ weight_at (sound_count now.now (reverse before.now) s.now following.now) at.now ∷ [])) }
+        (grace_weights (since_event (reverse step.now.before.now))
+        ++ weight_at (sound_count step.now.state.now (reverse step.now.before.now) s.now step.now.following.now)
+        step.now.at.now
+        ∷ [])) }
 {
-    let waits = since_event(before);
+    let waits = since_event(step.before);
     put_graces(weights, waits)?;
-    weights.push(weight_at(sound_count(s, count_parts(parts)), at))?;
-    let own = sound_fault(now, at, s, parts.is_none());
-    Ok(earlier(own, grace_fault(now.force.clef, waits)))
+    weights.push(weight_at(sound_count(s, count_parts(parts)), step.at))?;
+    let own = sound_fault(step, s, parts.is_none());
+    Ok(earlier(own, grace_fault(step.state.force.clef, waits)))
 }
 
 /// Returns the first fault of whole measure rests, without their graces.
 #[tactic(auto, using(crate::proofs::Firsts::first_append))]
-fn rest_fault(now: &VoiceState, at: &PlacedStep, count: u16) -> Option<Fault>
-    requires groups { now.now.counts.groups ≤ 2 ^ 30 }
-    requires further { now.now.counts.further ≤ 2 ^ 46 }
-    ensures { result ≡ first_of (rest_faults now.now at.now count) }
+fn rest_fault(step: &StepContext<'_>, count: u16) -> Option<Fault>
+    ensures { result ≡ first_of (rest_faults step.now.state.now step.now.at.now count) }
 {
-    let free = fault_if(is_free(now.force.meter), FaultKind::RestWithoutMeter, at);
-    let last = measure_of(now) + u64::from(count.saturating_sub(1));
+    let free = is_free(step.state.force.meter);
+    let last = measure_of(step.state) + u64::from(count.saturating_sub(1));
     earlier(
-        free,
-        fault_if(is_past(last), FaultKind::TooManyMeasures, at),
+        fault_if(free, FaultKind::RestWithoutMeter, step.at),
+        fault_if(is_past(last), FaultKind::TooManyMeasures, step.at),
     )
 }
 
@@ -222,27 +213,26 @@ fn rest_fault(now: &VoiceState, at: &PlacedStep, count: u16) -> Option<Fault>
 #[tactic(auto, using(crate::proofs::Firsts::first_append, crate::proofs::Caps::capped_append))]
 fn judge_rests(
     weights: &mut Row<Weight>,
-    now: &VoiceState,
-    before: &[PlacedStep],
-    at: &PlacedStep,
+    step: &StepContext<'_>,
     count: u16,
 ) -> Result<Option<Fault>, Memory>
-    requires groups { now.now.counts.groups ≤ 2 ^ 30 }
-    requires further { now.now.counts.further ≤ 2 ^ 46 }
     ensures fault { IfOk result (λ f.
         f
         ≡ first_of
-        (rest_faults now.now at.now count ++ grace_faults now.now.force.clef (since_event (reverse before.now)))) }
+        (rest_faults step.now.state.now step.now.at.now count
+        ++ grace_faults step.now.state.now.force.clef (since_event (reverse step.now.before.now)))) }
     ensures weights { OnOk result
         (weights.new
-        ≡ weights.old ++ map capped (grace_weights (since_event (reverse before.now)) ++ weight_at count at.now ∷ [])) }
+        ≡ weights.old
+        ++ map capped
+        (grace_weights (since_event (reverse step.now.before.now)) ++ weight_at count step.now.at.now ∷ [])) }
 {
-    let waits = since_event(before);
+    let waits = since_event(step.before);
     put_graces(weights, waits)?;
-    weights.push(weight_at(u128::from(count), at))?;
+    weights.push(weight_at(u128::from(count), step.at))?;
     Ok(earlier(
-        rest_fault(now, at, count),
-        grace_fault(now.force.clef, waits),
+        rest_fault(step, count),
+        grace_fault(step.state.force.clef, waits),
     ))
 }
 
@@ -256,33 +246,36 @@ fn judge_rests(
 #[tactic(auto, unfolding(crate::specs::Faults::faults_of, crate::specs::Weights::weights_of))]
 pub fn judge_step(
     weights: &mut Row<Weight>,
-    now: &VoiceState,
-    before: &[PlacedStep],
-    at: &PlacedStep,
+    step: &StepContext<'_>,
     parts: &Option<Few<Value>>,
-    following: &[PlacedStep],
 ) -> Result<Option<Fault>, Memory>
-    requires groups { now.now.counts.groups ≤ 2 ^ 30 }
-    requires further { now.now.counts.further ≤ 2 ^ 46 }
-    requires parts { parts.now ≡ parts_at now.now.force.unit (reverse before.now) at.now.step following.now }
-    ensures fault { IfOk result
-        (λ f. f ≡ first_of (faults_of now.now (reverse before.now) at.now following.now at.now.step)) }
+    requires parts { parts.now
+        ≡ parts_at step.now.state.now.force.unit (reverse step.now.before.now) step.now.at.now.step
+        step.now.following.now }
+    ensures fault { IfOk result (λ f.
+        f
+        ≡ first_of
+        (faults_of step.now.state.now (reverse step.now.before.now) step.now.at.now step.now.following.now
+        step.now.at.now.step)) }
     ensures weights { OnOk result
         (weights.new
-        ≡ weights.old ++ map capped (weights_of now.now (reverse before.now) at.now following.now at.now.step)) }
+        ≡ weights.old
+        ++ map capped
+        (weights_of step.now.state.now (reverse step.now.before.now) step.now.at.now step.now.following.now
+        step.now.at.now.step)) }
 {
-    match &at.step {
-        Step::Sound(s) => judge_sound(weights, now, before, at, s, parts, following),
-        Step::Measures { seen: _, count } => judge_rests(weights, now, before, at, *count),
+    match &step.at.step {
+        Step::Sound(s) => judge_sound(weights, step, s, parts),
+        Step::Measures { seen: _, count } => judge_rests(weights, step, *count),
         Step::Tuplet { p, q: _, r } => Ok(tuplet_fault(
             or_default(*p, *r),
-            now.taking,
-            at,
-            following,
+            step.state.taking,
+            step.at,
+            step.following,
         )),
         Step::Broken { right: _, dots: _ } => {
-            let alone = !(has_left(before) && has_right(following));
-            Ok(fault_if(alone, FaultKind::BrokenAlone, at))
+            let alone = !(has_left(step.before) && has_right(step.following));
+            Ok(fault_if(alone, FaultKind::BrokenAlone, step.at))
         }
         _ => Ok(None),
     }

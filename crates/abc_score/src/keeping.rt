@@ -17,8 +17,8 @@ use abc_lines::Fault;
 use abc_signs::{TreeItem, put_signs, signs};
 use abc_steps::kinds::is_event;
 use abc_steps::lengths::parts_at;
-use abc_steps::state::{VoiceState, beginning, step_over};
-use abc_steps::{PlacedStep, Step};
+use abc_steps::state::{beginning, step_over};
+use abc_steps::{PlacedStep, Step, StepContext};
 use mus_score::HEAD_LIMIT;
 use mus_units::{Few, Memory, Row, Value};
 use std::alloc::Global;
@@ -49,23 +49,22 @@ pub struct JudgedVoice {
 fn keep(
     alloc: Global,
     kept: &mut VoiceItems,
-    now: &VoiceState,
-    before: &[PlacedStep],
-    at: &PlacedStep,
+    step: &StepContext<'_>,
     parts: Option<Few<Value>>,
-    following: &[PlacedStep],
 ) -> Result<(), Memory>
-    requires few { length before.now ≤ 2 ^ 30 }
-    requires few_after { length following.now ≤ 2 ^ 30 }
-    requires groups { now.now.counts.groups ≤ 2 ^ 30 }
-    requires further { now.now.counts.further ≤ 2 ^ 46 }
-    requires force { IsGoodForce now.now.force }
-    requires parts { parts ≡ parts_at now.now.force.unit (reverse before.now) at.now.step following.now }
+    requires few { length step.now.before.now ≤ 2 ^ 30 }
+    requires few_after { length step.now.following.now ≤ 2 ^ 30 }
+    requires force { IsGoodForce step.now.state.now.force }
+    requires parts { parts
+        ≡ parts_at step.now.state.now.force.unit (reverse step.now.before.now) step.now.at.now.step
+        step.now.following.now }
     ensures { OnOk result
         (kept.new.whole ≡ true
         → (kept.old.whole ≡ true)
         × (kept.new.signs
-        ≡ kept.old.signs ++ tree_items_of now.now (reverse before.now) at.now following.now at.now.step)) }
+        ≡ kept.old.signs
+        ++ tree_items_of step.now.state.now (reverse step.now.before.now) step.now.at.now step.now.following.now
+        step.now.at.now.step)) }
 {
     if !kept.whole {
         return Ok(());
@@ -75,7 +74,7 @@ fn keep(
         kept.whole = false;
         return Ok(());
     }
-    put_signs(alloc, &mut kept.signs, now, before, at, parts, following)
+    put_signs(alloc, &mut kept.signs, step, parts)
 }
 
 /// Returns no tree items, for a voice that isn't judged to its end.
@@ -178,10 +177,13 @@ pub(crate) fn judge_voice(
             continue;
         }
         let parts = parts_at(alloc, now.force.unit, before, at, following)?;
-        found = earlier(
-            found,
-            judge_step(weights, &now, before, at, &parts, following)?,
-        );
+        let step = StepContext {
+            state: &now,
+            before,
+            at,
+            following,
+        };
+        found = earlier(found, judge_step(weights, &step, &parts)?);
         if weights.len() > limit {
             let (_, own) = weights.as_slice().split_at(start);
             if is_end(own, at, following) {
@@ -189,7 +191,7 @@ pub(crate) fn judge_voice(
             }
             limit = limit.saturating_mul(2);
         }
-        keep(alloc, &mut kept, &now, before, at, parts, following)?;
+        keep(alloc, &mut kept, &step, parts)?;
         step_over(alloc, &mut now, at)?;
     }
     kept.measures = now.counts.begun;

@@ -18,7 +18,7 @@ use abc_steps::lengths::parts_at;
 use abc_steps::looks::{has_parting, is_sound_tied, since_event, slurs_begun, slurs_ended};
 use abc_steps::state::{VoiceState, beginning, measure_of, step_over};
 use abc_steps::tuplets::{fits, or_default, usual_q};
-use abc_steps::{InForce, PlacedStep, Step, StoredSound};
+use abc_steps::{InForce, PlacedStep, Step, StepContext, StoredSound};
 use mus_score::Look;
 use mus_units::{Base, Few, Head, Memory, Row, Value};
 use std::alloc::Global;
@@ -105,39 +105,39 @@ fn values_of(alloc: Global, parts: Option<Few<Value>>) -> Few<Value>
     parts.unwrap_or(Few::from(Row::new(alloc)))
 }
 
-/// Returns a note, a chord or a rest as it is written, for which `waits` is pending.
+/// Returns a note, a chord or a rest with these parts as it is written, for which `waits` is pending.
 #[inline(always)]
 #[tactic(auto, unfolding(crate::specs::Signs::sound_written, abc_steps::specs::Lengths::parts_at))]
 fn sound_written(
     alloc: Global,
-    now: &VoiceState,
-    before: &[PlacedStep],
-    waits: &[PlacedStep],
-    at: &PlacedStep,
+    step: &StepContext<'_>,
     s: &StoredSound,
+    waits: &[PlacedStep],
     parts: Option<Few<Value>>,
-    following: &[PlacedStep],
 ) -> Result<WrittenEvent, Memory>
-    requires few { length before.now ≤ 2 ^ 30 }
-    requires few_after { length following.now ≤ 2 ^ 30 }
-    requires groups { now.now.counts.groups ≤ 2 ^ 30 }
-    requires further { now.now.counts.further ≤ 2 ^ 46 }
-    requires parts { parts ≡ parts_at now.now.force.unit (reverse before.now) (Step.Sound s.now) following.now }
-    requires waits { waits.now ≡ since_event (reverse before.now) }
-    ensures { IfOk result (λ w. w ≡ sound_written now.now (reverse before.now) at.now s.now following.now) }
+    requires few { length step.now.before.now ≤ 2 ^ 30 }
+    requires few_after { length step.now.following.now ≤ 2 ^ 30 }
+    requires parts { parts
+        ≡ parts_at step.now.state.now.force.unit (reverse step.now.before.now) (Step.Sound s.now)
+        step.now.following.now }
+    requires waits { waits.now ≡ since_event (reverse step.now.before.now) }
+    ensures { IfOk result (λ w.
+        w
+        ≡ sound_written step.now.state.now (reverse step.now.before.now) step.now.at.now s.now
+        step.now.following.now) }
 {
-    let heads = tied_heads(alloc, s.heads(), following)?;
+    let heads = tied_heads(alloc, s.heads(), step.following)?;
     Ok(WrittenEvent {
-        line: at.line,
-        column: at.column,
-        measure: measure_of(now),
+        line: step.at.line,
+        column: step.at.column,
+        measure: measure_of(step.state),
         heads,
         look: look_of(s.seen()),
         values: values_of(alloc, parts),
         whole: None,
-        parted: parted_at(now, waits),
-        begins: begins(s.heads(), before),
-        ends: ends(s.heads(), following),
+        parted: parted_at(step.state, waits),
+        begins: begins(s.heads(), step.before),
+        ends: ends(s.heads(), step.following),
     })
 }
 
@@ -182,18 +182,25 @@ fn rest_written(
 fn put_further(
     alloc: Global,
     out: &mut Row<TreeItem>,
-    now: &VoiceState,
-    at: &PlacedStep,
+    step: &StepContext<'_>,
     seen: bool,
     measure: u64,
     count: u16,
 ) -> Result<(), Memory>
-    requires meter { IsGoodMeter now.now.force.meter }
+    requires meter { IsGoodMeter step.now.state.now.force.meter }
     requires near { measure ≤ 2 ^ 47 }
-    ensures { OnOk result (out.new ≡ out.old ++ further_rests now.now at.now seen measure count) }
+    ensures { OnOk result
+        (out.new ≡ out.old ++ further_rests step.now.state.now step.now.at.now seen measure count) }
 {
     for i in 0..count {
-        let written = rest_written(alloc, now, at, seen, measure + u64::from(i), false);
+        let written = rest_written(
+            alloc,
+            step.state,
+            step.at,
+            seen,
+            measure + u64::from(i),
+            false,
+        );
         out.push(TreeItem::Event {
             written,
             waiting: StoredPending::nothing(),
@@ -207,23 +214,23 @@ fn put_further(
 fn put_rests(
     alloc: Global,
     out: &mut Row<TreeItem>,
-    now: &VoiceState,
-    waits: &[PlacedStep],
-    at: &PlacedStep,
+    step: &StepContext<'_>,
     seen: bool,
     count: u16,
 ) -> Result<(), Memory>
-    requires groups { now.now.counts.groups ≤ 2 ^ 30 }
-    requires further { now.now.counts.further ≤ 2 ^ 46 }
-    requires force { IsGoodForce now.now.force }
-    ensures { OnOk result (out.new ≡ out.old ++ rests_of now.now waits.now at.now seen count) }
+    requires force { IsGoodForce step.now.state.now.force }
+    ensures { OnOk result
+        (out.new
+        ≡ out.old
+        ++ rests_of step.now.state.now (since_event (reverse step.now.before.now)) step.now.at.now seen count) }
 {
-    let measure = measure_of(now);
-    let written = rest_written(alloc, now, at, seen, measure, parted_at(now, waits));
-    let waiting = waiting_of(alloc, &now.force, waits, &[])?;
+    let (state, at, waits) = (step.state, step.at, since_event(step.before));
+    let measure = measure_of(state);
+    let written = rest_written(alloc, state, at, seen, measure, parted_at(state, waits));
+    let waiting = waiting_of(alloc, &state.force, waits, &[])?;
     out.push(TreeItem::Event { written, waiting })?;
     let further = count.saturating_sub(1);
-    put_further(alloc, out, now, at, seen, measure + 1, further)
+    put_further(alloc, out, step, seen, measure + 1, further)
 }
 
 /// Adds a tuplet if it fits into the open ones.
@@ -250,32 +257,30 @@ fn put_tuplet(out: &mut Row<TreeItem>, now: &VoiceState, p: u8, q: u8, r: u8) ->
 pub fn put_signs(
     alloc: Global,
     out: &mut Row<TreeItem>,
-    now: &VoiceState,
-    before: &[PlacedStep],
-    at: &PlacedStep,
+    step: &StepContext<'_>,
     parts: Option<Few<Value>>,
-    following: &[PlacedStep],
 ) -> Result<(), Memory>
-    requires few { length before.now ≤ 2 ^ 30 }
-    requires few_after { length following.now ≤ 2 ^ 30 }
-    requires groups { now.now.counts.groups ≤ 2 ^ 30 }
-    requires further { now.now.counts.further ≤ 2 ^ 46 }
-    requires force { IsGoodForce now.now.force }
-    requires parts { parts ≡ parts_at now.now.force.unit (reverse before.now) at.now.step following.now }
+    requires few { length step.now.before.now ≤ 2 ^ 30 }
+    requires few_after { length step.now.following.now ≤ 2 ^ 30 }
+    requires force { IsGoodForce step.now.state.now.force }
+    requires parts { parts
+        ≡ parts_at step.now.state.now.force.unit (reverse step.now.before.now) step.now.at.now.step
+        step.now.following.now }
     ensures { OnOk result
-        (out.new ≡ out.old ++ tree_items_of now.now (reverse before.now) at.now following.now at.now.step) }
+        (out.new
+        ≡ out.old
+        ++ tree_items_of step.now.state.now (reverse step.now.before.now) step.now.at.now step.now.following.now
+        step.now.at.now.step) }
 {
-    match &at.step {
+    match &step.at.step {
         Step::Sound(s) => {
-            let waits = since_event(before);
-            let written = sound_written(alloc, now, before, waits, at, s, parts, following)?;
-            let waiting = waiting_of(alloc, &now.force, waits, s.decos())?;
+            let waits = since_event(step.before);
+            let written = sound_written(alloc, step, s, waits, parts)?;
+            let waiting = waiting_of(alloc, &step.state.force, waits, s.decos())?;
             out.push(TreeItem::Event { written, waiting })
         }
-        Step::Measures { seen, count } => {
-            put_rests(alloc, out, now, since_event(before), at, *seen, *count)
-        }
-        Step::Tuplet { p, q, r } => put_tuplet(out, now, *p, *q, *r),
+        Step::Measures { seen, count } => put_rests(alloc, out, step, *seen, *count),
+        Step::Tuplet { p, q, r } => put_tuplet(out, step.state, *p, *q, *r),
         _ => Ok(()),
     }
 }
@@ -301,7 +306,13 @@ pub fn signs(alloc: Global, first: &InForce, steps: &[PlacedStep]) -> Result<Row
         let (_, following) = steps.split_at(i + 1);
         let at = &steps[i];
         let parts = parts_at(alloc, now.force.unit, before, at, following)?;
-        put_signs(alloc, &mut out, &now, before, at, parts, following)?;
+        let step = StepContext {
+            state: &now,
+            before,
+            at,
+            following,
+        };
+        put_signs(alloc, &mut out, &step, parts)?;
         step_over(alloc, &mut now, at)?;
     }
     Ok(out)

@@ -2,6 +2,7 @@
 //! one voice.
 #![tactic(auto)]
 
+pub mod context;
 pub mod copies;
 pub mod counts;
 pub mod force;
@@ -15,6 +16,7 @@ pub mod stored;
 pub mod tuplets;
 
 pub use abc_music::Boxed;
+pub use context::StepContext;
 pub use counts::{Counts, Nearest};
 pub use force::InForce;
 pub use laws::states_are_as_written;
