@@ -4,8 +4,7 @@ use Rattle.abc_field.proofs.FieldForms.{line-says, line-read, line-bad, line-ref
 use Rattle.abc_field.proofs.FieldForms.{named-refused}
 use Rattle.abc_fields.specs.FileHeader.{AreDefaultsBy, IsPaperBy}
 use Rattle.abc_fields.proofs.FaultLaws.{header-clear, header-first, header-first-is, header-none}
-use Rattle.abc_fields.proofs.FileHeaderLaws.{defaults-are, defaults-one, header_staves, paper-is, paper-one}
-use Rattle.abc_fields.proofs.ValueLaws.{header_values}
+use Rattle.abc_fields.proofs.FileHeaderLaws.{defaults-are, defaults-one, paper-is, paper-one}
 use Rattle.abc_steps.specs.Written.{IsStateAsWritten}
 use Rattle.mus_lyric.specs.declared.singing.NoteAt.{NoteAt}
 use Rattle.mus_lyric.specs.declared.singing.Sung.{Sung}
@@ -16,6 +15,7 @@ use Rattle.mus_lyric.specs.Syllables.{AreSyllablesOf, after_run, syllables_of}
 use Rattle.mus_lyric.proofs.SingingLaws.{is_sung, is_one as one_sung}
 use Rattle.mus_lyric.proofs.SyllableLaws.{is_spelt, is_one as one_spelt}
 use Rattle.law_every_score.specs.Said.{Exactly, IsReadAsSaid}
+use Rattle.law_every_score.proofs.{HeaderValues.{header_is, header_says}, Parts.{parts_found, parts_taken}}
 
 exact_syllables : (words : List ℕ) (syls : List Syl) → Exactly (syls ≡ syllables_of words) (AreSyllablesOf words syls)
 unfolding syllables_of
@@ -35,7 +35,8 @@ read_as_said state = record {
   named_bad = λ letter text kind. (named-bad letter text kind, named-refused letter text kind);
   fault = λ tune fault. (header-first-is tune fault, header-first tune fault);
   clear = λ tune. (header-clear tune, header-none tune);
-  values = λ tune defaults header is. (header_values tune defaults header is, header_staves tune defaults header is);
+  values = λ tune defaults header. (header_says tune defaults header, header_is tune defaults header);
+  parts = λ num den values some whole. (parts_found num den values some, parts_taken num den values whole);
   defaults =
       λ lines defaults.
       (λ is. subst (AreDefaultsBy lines) (sym is) (defaults-are lines), defaults-one lines defaults);

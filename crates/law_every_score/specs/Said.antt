@@ -1,6 +1,8 @@
 -- What the program reads of lines is exactly what they say: each definition by which it computes a value, or a fault,
--- is the relation that says what a text means.
-use Rattle.std.specs.Prelude.{◌≡◌, ℕ, List, Some, None, Ok, Err}
+-- is the relation that says what a text means. So is that of the parts of a length.
+use Rattle.std.specs.Prelude.{◌≡◌, ◌≤◌, ℕ, ◌+◌, List, Option, Some, None, Ok, Err}
+use Rattle.mus_units.specs.declared.value.Value.{Value}
+use Rattle.mus_units.specs.Parts.{IsPartsOf, parts_list}
 use Rattle.abc_lines.specs.declared.book.Line.{Line}
 use Rattle.abc_lines.specs.declared.book.TuneText.{TuneText}
 use Rattle.abc_lines.specs.declared.fault.Fault.{Fault}
@@ -15,8 +17,9 @@ use Rattle.abc_fields.specs.Defaults.{defaults_of}
 use Rattle.abc_fields.specs.FileHeader.{AreDefaultsBy, AreStavesOf, IsPaperBy}
 use Rattle.abc_fields.specs.HeaderFaults.{IsClearHeader, IsFaultOfHeader}
 use Rattle.abc_fields.specs.HeaderValues.{AreValuesOf}
-use Rattle.abc_fields.specs.Headers.{header_fault, IsHeaderOf}
+use Rattle.abc_fields.specs.Headers.{fields_of, head_lines, header_fault, IsHeaderOf, key_place}
 use Rattle.abc_fields.specs.Papers.{paper_of}
+use Rattle.abc_fields.specs.Voicing.{voices_of}
 use Rattle.abc_steps.specs.Written.{IsStateAsWritten}
 use Rattle.mus_lyric.specs.declared.singing.NoteAt.{NoteAt}
 use Rattle.mus_lyric.specs.declared.singing.Sung.{Sung}
@@ -27,6 +30,18 @@ use Rattle.mus_lyric.specs.Syllables.{AreSyllablesOf, syllables_of}
 -- each follows from the other
 abbrev pub Exactly : Type 0 → Type 0 → Type 0
 Exactly A B = (A → B) × (B → A)
+
+-- the voices of a header are those that the fields of its lines up to the first `K:` name, and its body follows them
+abbrev pub HasVoicesUpTo : TuneText → Option ℕ → Header → Type 0
+HasVoicesUpTo tune None header = ⊥
+HasVoicesUpTo tune (Some place) header =
+    (header.voices ≡ voices_of (fields_of (head_lines tune place))) × (header.body ≡ place + 1)
+
+-- each value of a header is the last that a line up to the first `K:` says, or, if no line says one, its default
+pub record SaysHeader (tune : TuneText) (defaults : Defaults) (header : Header) : Type 0 where
+  pub values : AreValuesOf tune defaults header
+  pub staves : AreStavesOf tune defaults header.staves
+  pub voices : HasVoicesUpTo tune (key_place tune.lines) header
 
 pub record IsReadAsSaid : Type 0 where
   -- a line, or a letter and a text within a music line, is read as a field exactly if it says it
@@ -40,9 +55,13 @@ pub record IsReadAsSaid : Type 0 where
   -- the fault of a header is the first of its lines' faults, and there is none exactly if no line is at fault
   pub fault : (tune : TuneText) (fault : Fault) → Exactly (header_fault tune ≡ Some fault) (IsFaultOfHeader tune fault)
   pub clear : (tune : TuneText) → Exactly (header_fault tune ≡ None) (IsClearHeader tune)
-  -- the values of a header are the last that its lines say, and so are its staves
+  -- a header is that of a tune exactly if its values are those that the tune's lines say
   pub values : (tune : TuneText) (defaults : Defaults) (header : Header)
-      → IsHeaderOf tune defaults header → AreValuesOf tune defaults header × AreStavesOf tune defaults header.staves
+      → Exactly (IsHeaderOf tune defaults header) (SaysHeader tune defaults header)
+  -- a list of values is found for a length exactly if they are its parts: each the longest that isn't longer than what
+  -- those before it leave, at most eight, and the last leaves nothing
+  pub parts : (num den : ℕ) (values : List Value) → 1 ≤ num → 1 ≤ den
+      → Exactly (parts_list num den ≡ Some values) (IsPartsOf num den values)
   -- the defaults and the paper are those that the file header states
   pub defaults : (lines : List Line) (defaults : Defaults)
       → Exactly (defaults ≡ defaults_of lines) (AreDefaultsBy lines defaults)
