@@ -1,4 +1,5 @@
--- A sheet that shows a book sounds, for clear tunes whose voices have a staff each, as their scores do.
+-- A sheet that shows a book sounds, for clear tunes without a plan of staves, and for those whose voices have a staff
+-- each, as their scores do.
 use Rattle.std.proofs.Common.{refl, sym, ap, ◌∙◌, subst, ℕ, ◌≤◌, List, [], ◌∷◌, ◌++◌, length, map}
 use Rattle.std.proofs.lemmas.List.Elements.{All-head, All-tail}
 use Rattle.std.specs.Prelude.{All, Result, Ok, Err}
@@ -10,10 +11,12 @@ use Rattle.lay_tune.specs.Systems.{gaps_between}
 use Rattle.ps_text.specs.declared.sheet.Item.{Item}
 use Rattle.set_tune.specs.declared.tune.SetTune.{SetTune}
 use Rattle.set_book.specs.declared.outcome.Outcome.{Outcome}
-use Rattle.set_pages.specs.Read.{ShowsOutcome, ShowsResult}
+use Rattle.set_pages.specs.Read.{ShowsOutcome, ShowsResult, begun}
 use Rattle.set_pages.specs.Sheet.{IsSetResult, IsSetUnder}
 use Rattle.ps_heard.specs.Tunes.{staves_heard, systems_till, tunes_of}
-use Rattle.law_book_sound.specs.Sounds.{BooksAreHeard, SoundsOutcome, SoundsResult, SoundsTune}
+use Rattle.law_voice_sound.specs.Clear.{IsClearScore}
+use Rattle.law_book_sound.specs.Sounds.{AreAlone, BooksAreHeard, IsHeardAs, SoundsOutcome, SoundsResult, SoundsTune}
+use Rattle.law_book_sound.proofs.Seated.{each_alone}
 use Rattle.law_book_sound.proofs.Staves.{staves_sound}
 use Rattle.law_book_sound.proofs.Tunes.{begun_once, begun_one, begun_ordinals, parts_tunes, rows_before, systems_read}
 
@@ -30,17 +33,20 @@ result_sounds paper ordinal (Ok t) part set shows =
     rows_before tunes_of (λ row base items. refl) t.title.rows shows.rows shows.systems shows.titled ∙ read.tunes in
     let systems =
     rows_before systems_till (λ row base items. refl) t.title.rows shows.rows shows.systems shows.titled in
+    let heard : IsClearScore s → AreAlone s → 1 ≤ s.measures → IsHeardAs s (tunes_of (begun ordinal items)) =
+    λ clear alone measures.
+    let some = read.some measures in
+    let sound = staves_sound s (body_width paper) t.breaking.breaks (systems_till shows.systems) laid.score.good alone
+    clear legal.rises legal.ends read.systems some in (
+      record { ordinal = ordinal; systems = systems_till items },
+      begun_one ordinal items none (subst (λ l. 1 ≤ length l) (sym systems) some),
+      ap (staves_heard s.spread) systems ∙ sound,
+    ) in
     subst (λ part. SoundsTune ordinal t (tunes_of part)) (sym shows.parted) (record {
       once = begun_once ordinal items none;
       ordinals = begun_ordinals ordinal items none;
-      clear = λ clear alone measures.
-          let some = read.some measures in
-          let sound = staves_sound s (body_width paper) t.breaking.breaks (systems_till shows.systems) laid.score.good
-          alone clear legal.rises legal.ends read.systems some in (
-            record { ordinal = ordinal; systems = systems_till items },
-            begun_one ordinal items none (subst (λ l. 1 ≤ length l) (sym systems) some),
-            ap (staves_heard s.spread) systems ∙ sound,
-          );
+      clear = λ clear plain measures. heard clear (each_alone set.0 set.1 set.2 t.header s laid.score plain) measures;
+      alone = heard;
     })
 result_sounds paper ordinal (Err fault) part set shows = ap tunes_of shows
 

@@ -1,5 +1,6 @@
 pub mod Books
 mod Columns
+mod Seated
 mod Staves
 mod Telling
 mod Tunes
