@@ -53,7 +53,7 @@ unfolding staff_marks
 sound keys lengths a b vs =
     over_sound
     (by_columns (length keys)
-    (written_parts keys lengths (room_over (verses_on vs) (bare_marks keys lengths a b vs)) a b 1 [] vs)
+    (written_parts keys lengths (room_over (verses_on vs) (bare_marks keys lengths a b vs)) a b 0 [] vs)
     ++ staff_bridges keys lengths a b vs)
 
 all_sound : (keys : List ColumnKey) (lengths : List ℕ) (at : List ℤ) (a b : ℕ) (staves : List (List DrawnVoice))

@@ -1,7 +1,6 @@
 -- The lanes of the staves of a system: their numbers among all lanes, and the gaps in them.
-use Rattle.std.proofs.Common.{◌≡◌, ◌∙◌, ℕ, zero, suc, ◌+◌, ◌<◌, ◌≤◌, ◌==◌, if◌then◌else◌, List, [], ◌∷◌, length, Some}
-use Rattle.std.proofs.Common.{None, refl, sym, ap, subst, arith}
-use Rattle.std.proofs.lemmas.Bool.Decides.{nat_tests}
+use Rattle.std.proofs.Common.{◌≡◌, ◌∙◌, ℕ, zero, suc, ◌+◌, ◌<◌, List, [], ◌∷◌, length, Some}
+use Rattle.std.proofs.Common.{refl, sym, ap, subst, arith}
 use Rattle.std.proofs.lemmas.List.{get_or-append-add, get_or_append_left, get_or-replicate, length-append}
 use Rattle.std.proofs.lemmas.List.{length-replicate}
 use Rattle.std.proofs.lemmas.Option.{none-some, same_Some}
@@ -11,9 +10,9 @@ use Rattle.lay_reaches.specs.Lanes.{gaps_of, lane_count, lane_number, lane_start
 use Rattle.law_marks_apart.specs.Apart.{gap_of, Keeps}
 use Rattle.mus_laid.specs.declared.laid.Lane.TheVariants as lanes
 
--- verses count from 1
+-- verses count from 0
 abbrev pub HasLane : ℕ → Lane → Type 0
-HasLane verses (Lane.Verse n) = (1 ≤ n) × (n ≤ verses)
+HasLane verses (Lane.Verse n) = n < verses
 HasLane verses _ = Unit {0}
 
 gaps_long : (verses : ℕ) → length (staff_gaps verses) ≡ lane_count verses
@@ -67,22 +66,19 @@ pub record IsNumber (count : ℕ) (lane : Lane) (number : ℕ) : Type 0 where
 gap_after : (count k : ℕ) → k < 2 + count → slice_index (staff_gaps count) (suc k) ≡ 300
 gap_after count k l = get_or-replicate (2 + count) k 300 0 l
 
-verse_number : (n : ℕ) → 1 ≤ n → (if n == 0 then None else Some (2 + n)) ≡ Some (2 + n)
-verse_number n l = grind (arith, nat_tests)
-
 pub number_of : (count : ℕ) (lane : Lane) → Keeps lane → HasLane count lane → (number : ℕ) × IsNumber count lane number
 number_of count Lane.Main keeps has = (0, record { is = refl; low = omega arith; gap = refl })
 number_of count Lane.Above keeps has =
     (1, record { is = refl; low = omega arith; gap = gap_after count 0 (omega arith) })
 number_of count lanes.Below keeps has =
     (2, record { is = refl; low = omega arith; gap = gap_after count 1 (omega arith) })
-number_of count (Lane.Verse n) keeps (low, high) =
-    let e : suc (1 + n) ≡ 2 + n = omega arith in (
-      2 + n,
+number_of count (Lane.Verse n) keeps inside =
+    let e : suc (2 + n) ≡ 3 + n = omega arith in (
+      3 + n,
       record {
-        is = verse_number n low;
-        low = omega (arith, high);
-        gap = subst (λ k. slice_index (staff_gaps count) k ≡ 300) e (gap_after count (1 + n) (omega (arith, high)));
+        is = refl;
+        low = omega (arith, inside);
+        gap = subst (λ k. slice_index (staff_gaps count) k ≡ 300) e (gap_after count (2 + n) (omega (arith, inside)));
       },
     )
 number_of count Lane.Loose keeps has = absurd keeps

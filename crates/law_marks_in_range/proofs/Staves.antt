@@ -81,7 +81,7 @@ module _ (keys : List ColumnKey) (lengths : List ℕ) (a b : ℕ) where
   -- ---- the staff
   abbrev parts_of : List DrawnVoice → List (List Laid)
   parts_of voices =
-      written_parts keys lengths (room_over (verses_on voices) (bare_marks keys lengths a b voices)) a b 1 [] voices
+      written_parts keys lengths (room_over (verses_on voices) (bare_marks keys lengths a b voices)) a b 0 [] voices
 
   pub staff_ranked : (voices : List DrawnVoice)
       → a < b → AllByRecursion IsInside voices → Ranked (length keys) (staff_marks keys lengths a b voices).marks
@@ -90,7 +90,7 @@ module _ (keys : List ColumnKey) (lengths : List ℕ) (a b : ℕ) where
       all_append (λ laid. IsRanked (length keys) laid.mark) (by_columns (length keys) (parts_of voices))
       (staff_bridges keys lengths a b voices)
       (columned_all (λ laid. IsRanked (length keys) laid.mark) (length keys) (parts_of voices)
-      (parts_ranked _ 1 [] voices order h))
+      (parts_ranked _ 0 [] voices order h))
       (bridges_ranked keys (flat_map (bridges_of lengths a b) voices) (all_between voices h))
 
   pub staff_holds : (voices : List DrawnVoice)
@@ -99,6 +99,6 @@ module _ (keys : List ColumnKey) (lengths : List ℕ) (a b : ℕ) where
       → HasRank (key_rank keys k) (staff_marks keys lengths a b voices).marks
   unfolding staff_marks staff_over
   staff_holds voices order h k inside has =
-      let r = key_rank keys k in let held = parts_hold _ 1 [] voices order h k has in
+      let r = key_rank keys k in let held = parts_hold _ 0 [] voices order h k has in
       rank_left r (by_columns (length keys) (parts_of voices)) (staff_bridges keys lengths a b voices)
       (held.0, columned_has r held.0 held.2 (length keys) (parts_of voices) (rank_less keys k inside) held.1, held.2)

@@ -283,7 +283,7 @@ unfolding staff_marks staff_over
 alone_marks keys lengths a b w = (
   Some (record {
     room = room_over (verses_on (w ∷ [])) (bare_marks keys lengths a b (w ∷ []));
-    first = 1;
+    first = 0;
     before = [];
   }),
   refl,

@@ -184,30 +184,32 @@ sliced verses m ds fits =
 
 module _ (keys : List ColumnKey) (lengths : List ℕ) (m : ℕ) where
   part_good : (begins : Bool) (first : ℕ) (v : DrawnVoice)
-      → 1 ≤ first → FitsVoice v → AllByRecursion IsGood (measure_part begins keys lengths m first v)
-  part_good true first v some fits =
+      → FitsVoice v → AllByRecursion IsGood (measure_part begins keys lengths m first v)
+  part_good true first v fits =
+      let last : first + v.verses ≤ first + v.verses = omega arith in
       columns_all (first + v.verses) keys IsGood (goods (first + v.verses) keys) v.verses lengths
       (Some (fixed_place first)) m v.seat v.first (slice_range v.measures m (m + 1))
-      (some, omega arith) (sliced v.verses m v.measures fits)
-  part_good false first v some fits =
+      last (sliced v.verses m v.measures fits)
+  part_good false first v fits =
+      let last : first + v.verses ≤ first + v.verses = omega arith in
       measures_all (first + v.verses) keys IsGood (goods (first + v.verses) keys) v.verses lengths
       (Some (fixed_place first)) m false (slice_range v.measures m (m + 1))
-      (some, omega arith) (sliced v.verses m v.measures fits)
+      last (sliced v.verses m v.measures fits)
 
   parts_good : (begins : Bool) (first : ℕ) (vs : List DrawnVoice)
-      → 1 ≤ first → AllByRecursion FitsVoice vs
+      → AllByRecursion FitsVoice vs
       → AllByRecursion IsGood (parts_from (measure_part begins keys lengths m) first vs)
-  parts_good begins first [] some fits = tt
-  parts_good begins first (v ∷ vs) some fits =
+  parts_good begins first [] fits = tt
+  parts_good begins first (v ∷ vs) fits =
       all_append IsGood (measure_part begins keys lengths m first v)
       (parts_from (measure_part begins keys lengths m) (first + v.verses) vs)
-      (part_good begins first v some fits.0) (parts_good begins (first + v.verses) vs (omega (arith, some)) fits.1)
+      (part_good begins first v fits.0) (parts_good begins (first + v.verses) vs fits.1)
 
   each_good : (begins : Bool) (staves : List (List DrawnVoice))
       → AllByRecursion (AllByRecursion FitsVoice) staves
       → AllByRecursion (λ s. AreGoodMarks s.marks) (map (measure_staff begins keys lengths m) staves)
   each_good begins [] fits = tt
-  each_good begins (vs ∷ staves) fits = (parts_good begins 1 vs (omega arith) fits.0, each_good begins staves fits.1)
+  each_good begins (vs ∷ staves) fits = (parts_good begins 0 vs fits.0, each_good begins staves fits.1)
 
   pub staves_good : (begins : Bool) (s : Score)
       → IsGoodScore s → HaveGoodMarks (map (measure_staff begins keys lengths m) (drawn_staves s))

@@ -162,14 +162,14 @@ module _ (lengths : List ℕ) (m n : ℕ) (some : 1 ≤ m) (within : m < n) (own
       (parts_after (first + v.verses) vs h.1)
 
   abbrev heads : List DrawnVoice → StaffMarks
-  heads vs = staff_of_columns (parts_from head_of 1 vs)
+  heads vs = staff_of_columns (parts_from head_of 0 vs)
 
   staves_after : (staves : List (List DrawnVoice))
       → AllByRecursion (AllByRecursion Following) staves
       → StavesJoin 1 (map (measure_staff true begun lengths m) staves) (map heads staves)
       (map (measure_staff false own lengths m) staves)
   staves_after [] h = tt
-  staves_after (vs ∷ staves) h = (parts_after 1 vs h.0, staves_after staves h.1)
+  staves_after (vs ∷ staves) h = (parts_after 0 vs h.0, staves_after staves h.1)
 
 -- ---- the columns after the head
 some_voice : (f : Voice → List ColumnKey) (k : ColumnKey) (vs : List Voice) → Contains (flat_map f vs) k → 1 ≤ length vs

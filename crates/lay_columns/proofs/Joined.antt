@@ -104,7 +104,7 @@ all_weaker P Q f (x ∷ xs) h = (f x h.0, all_weaker P Q f xs h.1)
 
 -- ---- a voice of one more measure
 abbrev core_staff : List ColumnKey → List ℕ → ℕ → ℕ → List DrawnVoice → StaffMarks
-core_staff keys lengths a b vs = staff_of_columns (parts_from (core_part keys lengths a b) 1 vs)
+core_staff keys lengths a b vs = staff_of_columns (parts_from (core_part keys lengths a b) 0 vs)
 
 abbrev Until : ℕ → List ColumnKey → Type 0
 Until b ks = AllByRecursion (λ k. k.measure < b) ks
@@ -235,7 +235,7 @@ module _ (lengths : List ℕ) (a b n : ℕ) (prefix following : List ColumnKey) 
       (map (core_staff prefix lengths a b) staves) (map (measure_staff false following lengths b) staves)
   staves_joined [] h bars = tt
   staves_joined (vs ∷ staves) h bars =
-      (parts_joined (bars (omega arith)) 1 vs h.0, staves_joined staves h.1 (λ some. bars (omega arith)))
+      (parts_joined (bars (omega arith)) 0 vs h.0, staves_joined staves h.1 (λ some. bars (omega arith)))
 
   others : OfOtherMeasures prefix following
   others = All-from_recursion (λ k. All (λ l. l.measure ≢ k.measure) following) prefix
@@ -260,12 +260,12 @@ empty vs = staff_of_columns []
 
 module _ (lengths verses : List ℕ) (a b n : ℕ) (keys : List ColumnKey) (order : a < b) (within : b ≤ n) where
   drawn_joined : (vs : List DrawnVoice) → AllByRecursion (HasMeasures lengths n) vs → HasBars lengths a b keys
-      → AreJoined (length keys) (parts_from (core_part keys lengths a b) 1 vs) (staff_marks keys lengths a b vs).marks
+      → AreJoined (length keys) (parts_from (core_part keys lengths a b) 0 vs) (staff_marks keys lengths a b vs).marks
       []
   drawn_joined vs h bars =
-      let core = parts_from (core_part keys lengths a b) 1 vs in
+      let core = parts_from (core_part keys lengths a b) 0 vs in
       let below = All-from_recursion (λ l. IsBelow (length keys) (mark_rank l.mark)) core
-      (parts_below lengths a b n keys order within bars 1 vs h) in
+      (parts_below lengths a b n keys order within bars 0 vs h) in
       let alone = marks_join (length keys) core [] [] below (All-nil (λ l. mark_rank l.mark ≡ None)) in
       record {
         prefix = staff_same keys lengths a b vs;

@@ -208,16 +208,16 @@ written_same keys lengths room a b first before (v ∷ vs) rank lane =
 
 pub staff_same : (keys : List ColumnKey) (lengths : List ℕ) (a b : ℕ) (vs : List DrawnVoice) (rank lane : ℕ)
     → rank < length keys
-    → boxes_at rank lane (parts_from (core_part keys lengths a b) 1 vs)
+    → boxes_at rank lane (parts_from (core_part keys lengths a b) 0 vs)
     ≡ boxes_at rank lane (staff_marks keys lengths a b vs).marks
 unfolding staff_marks staff_over
 staff_same keys lengths a b vs rank lane inside =
     let room = room_over (verses_on vs) (bare_marks keys lengths a b vs) in
-    let parts = written_parts keys lengths room a b 1 [] vs in
+    let parts = written_parts keys lengths room a b 0 [] vs in
     let bridges = staff_bridges keys lengths a b vs in
     sym (filter_map-append (box_at rank lane) (by_columns (length keys) parts) bridges
     ∙ ap (λ t. boxes_at rank lane (by_columns (length keys) parts) ++ t)
     (bridges_none keys (flat_map (bridges_of lengths a b) vs) rank lane)
     ∙ append-nil (boxes_at rank lane (by_columns (length keys) parts))
     ∙ columned_taken (box_at rank lane) rank (no_box rank lane) (length keys) parts inside
-    ∙ written_same keys lengths room a b 1 [] vs rank lane)
+    ∙ written_same keys lengths room a b 0 [] vs rank lane)

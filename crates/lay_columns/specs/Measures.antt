@@ -47,7 +47,7 @@ measure_part false keys lengths m first v =
     measures_marks keys lengths (Some (fixed_place first)) m false (slice_range v.measures m (m + 1))
 
 abbrev pub measure_staff : Bool → List ColumnKey → List ℕ → ℕ → List DrawnVoice → StaffMarks
-measure_staff begins keys lengths m voices = staff_of_columns (parts_from (measure_part begins keys lengths m) 1 voices)
+measure_staff begins keys lengths m voices = staff_of_columns (parts_from (measure_part begins keys lengths m) 0 voices)
 
 -- whether the first event of measure m of a voice, if there is one, changes neither clef nor key nor meter
 abbrev pub first_plain : List DrawnEvent → Bool

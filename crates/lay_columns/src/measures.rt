@@ -59,7 +59,7 @@ fn put_part(
 ) -> Result<(), Memory>
     requires lengths { length v.now.measures ≡ length frame.now.lengths.now }
     requires good { AreGoodMeasures v.now.measures }
-    requires first { first ≤ 129 }
+    requires first { first ≤ 128 }
     ensures { OnOk result
         (pen.new.marks
         ≡ pen.old.marks ++ measure_part begins frame.now.keys.now frame.now.lengths.now frame.now.a first v.now) }
@@ -89,7 +89,7 @@ fn measure_staff(
         (λ r. r ≡ measure_staff begins frame.now.keys.now frame.now.lengths.now frame.now.a voices.now) }
 {
     let mut pen = MarkPen::new(alloc);
-    let mut first = 1;
+    let mut first = 0;
     for v in voices {
         put_part(&mut pen, frame, begins, first, v)?;
         first += v.verses;

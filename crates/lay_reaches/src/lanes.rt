@@ -20,8 +20,8 @@ pub(crate) fn lane_number(lane: Lane) -> Option<usize>
         Lane::Main => Some(0),
         Lane::Above => Some(1),
         Lane::Below => Some(2),
-        Lane::Verse(0) | Lane::Loose => None,
-        Lane::Verse(verse) => Some(2 + usize::from(verse)),
+        Lane::Verse(verse) => Some(3 + usize::from(verse)),
+        Lane::Loose => None,
     }
 }
 

@@ -546,7 +546,7 @@ module _ (keys : List ColumnKey) (lengths : List ℕ) (a b : ℕ) where
   -- a staff of voices with all ends at 0
   abbrev flat_staff : ℕ → List DrawnVoice → List Laid
   flat_staff verses vs =
-      by_columns (length keys) (map marks_shape (written_parts keys lengths (no_room verses) a b 1 [] vs))
+      by_columns (length keys) (map marks_shape (written_parts keys lengths (no_room verses) a b 0 [] vs))
       ++ map (span keys) (flat_map (bridges_of lengths a b) vs)
 
   staff : (vs : List DrawnVoice)
@@ -554,14 +554,14 @@ module _ (keys : List ColumnKey) (lengths : List ℕ) (a b : ℕ) where
   unfolding staff_marks staff_over room_over
   staff vs =
       let room = room_over (verses_on vs) (bare_marks keys lengths a b vs) in
-      let parts = written_parts keys lengths room a b 1 [] vs in
+      let parts = written_parts keys lengths room a b 0 [] vs in
       let bridges = flat_map (bridges_of lengths a b) vs in
       map-append laid_shape (by_columns (length keys) parts) (map (bridge_at keys) bridges)
       ∙ ap (λ t. t ++ marks_shape (map (bridge_at keys) bridges))
-      (columns_shaped (length keys) parts ∙ ap (by_columns (length keys)) (written room 1 [] vs))
+      (columns_shaped (length keys) parts ∙ ap (by_columns (length keys)) (written room 0 [] vs))
       ∙ ap (λ t.
       by_columns (length keys)
-      (map marks_shape (written_parts keys lengths (no_room (verses_on vs)) a b 1 [] (map flat_all vs)))
+      (map marks_shape (written_parts keys lengths (no_room (verses_on vs)) a b 0 [] (map flat_all vs)))
       ++ t)
       (map-map laid_shape (bridge_at keys) bridges ∙ all_bridges vs)
 

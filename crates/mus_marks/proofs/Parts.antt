@@ -1,7 +1,7 @@
 -- One walk over the marks of voices: what holds of all marks in a column, whatever its rank, and of beams and arcs,
 -- holds of all marks of a measure, of the columns of a system, and of a staff.
-use Rattle.std.proofs.Common.{◌≡◌, ℕ, zero, suc, ◌+◌, ◌-◌, ◌≤◌, ◌==◌, ◌&&◌, ◌||◌, not, Bool, true, false, if◌then◌else◌}
-use Rattle.std.proofs.Common.{List, [], ◌∷◌, ◌++◌, take, length, map, drop, Option, Some, None, arith}
+use Rattle.std.proofs.Common.{◌≡◌, ℕ, zero, suc, ◌+◌, ◌-◌, ◌≤◌, ◌<◌, ◌==◌, ◌&&◌, ◌||◌, not, Bool, true, false}
+use Rattle.std.proofs.Common.{if◌then◌else◌, List, [], ◌∷◌, ◌++◌, take, length, map, drop, Option, Some, None, arith}
 use Rattle.std.proofs.lemmas.List.Sums.{sum_by-cons}
 use Rattle.std.specs.List.{AllByRecursion, flat_map, slice_index_or, slice_range}
 use Rattle.std.specs.Prelude.{IfSome}
@@ -59,7 +59,7 @@ FitsVoice v = Fits v.verses v.measures
 
 -- the number of a verse of a staff
 abbrev pub IsVerse : ℕ → ℕ → Type 0
-IsVerse verses n = (1 ≤ n) × (n ≤ verses)
+IsVerse verses n = n < verses
 
 -- what each kind of mark needs
 pub record OfLaid (verses : ℕ) (keys : List ColumnKey) (P : Laid → Type 0) : Type 0 where
@@ -70,7 +70,7 @@ pub record OfLaid (verses : ℕ) (keys : List ColumnKey) (P : Laid → Type 0) :
 -- a voice with `own` verses has its place among those of its staff
 abbrev pub InPlace : ℕ → ℕ → Option WordRoom → Type 0
 InPlace verses own None = Unit {0}
-InPlace verses own (Some place) = (1 ≤ place.first) × (place.first + own ≤ verses + 1)
+InPlace verses own (Some place) = place.first + own ≤ verses
 
 pub verses_cons : (v : DrawnVoice) (vs : List DrawnVoice) → verses_on (v ∷ vs) ≡ v.verses + verses_on vs
 verses_cons v vs = sum_by-cons (λ n. n) v.verses (map (λ w. w.verses) vs)
@@ -126,12 +126,11 @@ module _ (verses : ℕ) (keys : List ColumnKey) (P : Laid → Type 0) (w : OfLai
       → AllByRecursion (λ d. P (drawn_at r d)) (words_marks place r f)
   words_some own r None f numbered count = tt
   words_some own r (Some place) f numbered count =
-      let first = numbered.0 in
-      let last = numbered.1 in
+      let last : place.first + own ≤ verses = numbered in
       let at = text_place place.room (slice_index_or place.before r no_texts) in
       all_append (λ d. P (drawn_at r d)) (syllables_from place.room.low place.first f.event.words) (text_marks at f)
       (syllables_all (IsVerse verses) (λ d. P (drawn_at r d)) (w.of_words r) place.room.low place.first f.event.words
-      (λ i inside. (omega (arith, first), omega (arith, last, inside, count))))
+      (λ i inside. let here : place.first + i < verses = omega (arith, last, inside, count) in here))
       (texts_all (IsVerse verses) (λ d. P (drawn_at r d)) (w.of_words r) at f)
 
   words_at : (own r : ℕ) (place : Option WordRoom) (f : Flat)
@@ -220,14 +219,14 @@ module _ (verses : ℕ) (keys : List ColumnKey) (P : Laid → Type 0) (w : OfLai
       (some_fit v.verses a b v.measures fits)
 
   written_all : (lengths : List ℕ) (room : StaffRoom) (a b first : ℕ) (before : List TextCounts) (vs : List DrawnVoice)
-      → 1 ≤ first → first + verses_on vs ≤ verses + 1 → AllByRecursion FitsVoice vs
+      → first + verses_on vs ≤ verses → AllByRecursion FitsVoice vs
       → AllByRecursion (AllByRecursion P) (written_parts keys lengths room a b first before vs)
-  written_all lengths room a b first before [] some few fits = tt
-  written_all lengths room a b first before (v ∷ vs) some few fits =
-      let count = verses_cons v vs in (
-        voice_all lengths (Some (record { room = room; first = first; before = before })) a b v
-            (some, omega (arith, few, count)) fits.0,
-        written_all lengths room a b (first + v.verses) _ vs (omega (arith, some)) (omega (arith, few, count)) fits.1,
+  written_all lengths room a b first before [] few fits = tt
+  written_all lengths room a b first before (v ∷ vs) few fits =
+      let count = verses_cons v vs in
+      let here : first + v.verses ≤ verses = omega (arith, few, count) in (
+        voice_all lengths (Some (record { room = room; first = first; before = before })) a b v here fits.0,
+        written_all lengths room a b (first + v.verses) _ vs (omega (arith, few, count)) fits.1,
       )
 
   pub staff_all : (lengths : List ℕ) (a b : ℕ) (vs : List DrawnVoice)
@@ -235,7 +234,7 @@ module _ (verses : ℕ) (keys : List ColumnKey) (P : Laid → Type 0) (w : OfLai
   unfolding staff_marks staff_over
   staff_all lengths a b vs few fits =
       two (by_columns (length keys)
-      (written_parts keys lengths (room_over (verses_on vs) (bare_marks keys lengths a b vs)) a b 1 [] vs))
+      (written_parts keys lengths (room_over (verses_on vs) (bare_marks keys lengths a b vs)) a b 0 [] vs))
       _
-      (columned_all P (length keys) _ (written_all lengths _ a b 1 [] vs (omega arith) (omega (arith, few)) fits))
+      (columned_all P (length keys) _ (written_all lengths _ a b 0 [] vs (omega (arith, few)) fits))
       (between (flat_map (bridges_of lengths a b) vs))

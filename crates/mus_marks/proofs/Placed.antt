@@ -21,15 +21,15 @@ module _ (columns : ℕ) (v : DrawnVoice) (following rest : List DrawnVoice) (pl
       by true = refl
       by false = refl
 
-  pub next_first : place.first + verses_on rest ≤ 129 → next.first + verses_on following ≤ 129
+  pub next_first : place.first + verses_on rest ≤ 128 → next.first + verses_on following ≤ 128
   next_first few =
       let count = ap verses_on prefix ∙ verses_cons v following in
       let first = ap (λ p. p.first) is in
       by follows (omega (arith, few, count)) first
     where
-      by : (b : Bool) → place.first + (v.verses + verses_on following) ≤ 129
+      by : (b : Bool) → place.first + (v.verses + verses_on following) ≤ 128
           → next.first ≡ (word_room_after columns place v.verses part b).first
-          → next.first + verses_on following ≤ 129
+          → next.first + verses_on following ≤ 128
       by true h e = omega (arith, h, e)
       by false h e = omega (arith, h, e)
 

@@ -136,5 +136,5 @@ module _ (keys : List ColumnKey) (lengths : List ℕ) (a b : ℕ) where
 
   pub any_room : (room other : StaffRoom) (vs : List DrawnVoice)
       → is_silent_staff a b vs ≡ true
-      → written_parts keys lengths room a b 1 [] vs ≡ written_parts keys lengths other a b 1 [] vs
-  any_room room other vs silent = written_silent room 1 [] vs silent ∙ sym (written_silent other 1 [] vs silent)
+      → written_parts keys lengths room a b 0 [] vs ≡ written_parts keys lengths other a b 0 [] vs
+  any_room room other vs silent = written_silent room 0 [] vs silent ∙ sym (written_silent other 0 [] vs silent)

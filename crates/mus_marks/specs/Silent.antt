@@ -31,5 +31,5 @@ is_silent_staff a b voices = list_all (λ v. are_silent (slice_range v.measures 
 -- a room in which voices are written as in the one that the marks of their staff leave
 abbrev pub FitsRoom : List ColumnKey → List ℕ → ℕ → ℕ → List DrawnVoice → StaffRoom → Type 0
 FitsRoom keys lengths a b voices room =
-    written_parts keys lengths room a b 1 [] voices
-    ≡ written_parts keys lengths (room_over (verses_on voices) (bare_marks keys lengths a b voices)) a b 1 [] voices
+    written_parts keys lengths room a b 0 [] voices
+    ≡ written_parts keys lengths (room_over (verses_on voices) (bare_marks keys lengths a b voices)) a b 0 [] voices

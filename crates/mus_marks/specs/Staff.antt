@@ -124,7 +124,7 @@ unfoldable pub staff_marks : List ColumnKey → List ℕ → ℕ → ℕ → Lis
 staff_marks keys lengths a b voices =
     let room = room_over (verses_on voices) (bare_marks keys lengths a b voices) in
     staff_over
-    (by_columns (length keys) (written_parts keys lengths room a b 1 [] voices)
+    (by_columns (length keys) (written_parts keys lengths room a b 0 [] voices)
     ++ staff_bridges keys lengths a b voices)
 
 -- a staff covers at least its lines

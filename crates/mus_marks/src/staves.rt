@@ -173,7 +173,7 @@ fn word_room_after(
     part: &[Laid],
     follows: bool,
 ) -> Result<WordRoom, Memory>
-    requires { place.first + verses ≤ 129 }
+    requires { place.first + verses ≤ 128 }
     ensures { IfOk result (λ p. p ≡ word_room_after columns place verses part.now follows) }
 {
     if !follows {
@@ -195,7 +195,7 @@ fn written_part(
 ) -> Result<Row<Laid>, Memory>
     requires lengths { length v.now.measures ≡ length frame.now.lengths.now }
     requires good { AreGoodMeasures v.now.measures }
-    requires verses { place.now.first ≤ 129 }
+    requires verses { place.now.first ≤ 128 }
     ensures { IfOk result
         (λ r. r ≡ own_part frame.now.keys.now frame.now.lengths.now (Some place.now) frame.now.a frame.now.b v.now) }
 {
@@ -215,12 +215,12 @@ fn written_parts(
     requires good { All (λ v. AreGoodMeasures v.measures) voices.now }
     requires verses { verses_on voices.now ≤ 128 }
     ensures { IfOk result
-        (λ r. r ≡ written_parts frame.now.keys.now frame.now.lengths.now room frame.now.a frame.now.b 1 [] voices.now) }
+        (λ r. r ≡ written_parts frame.now.keys.now frame.now.lengths.now room frame.now.a frame.now.b 0 [] voices.now) }
 {
     let mut parts = Row::new(alloc);
     let mut place = WordRoom {
         room,
-        first: 1,
+        first: 0,
         before: Row::new(alloc),
     };
     let mut rest = voices;

@@ -12,9 +12,9 @@ use Rattle.mus_words.specs.Words.{words}
 unfoldable pub syllable_dx : ℕ → ℤ
 syllable_dx count = back (half_character * count)
 
--- verses are below one another; the first, 1, is a step below the lowest mark
+-- verses are below one another; the first, 0, is a step below the lowest mark
 unfoldable pub verse_dy : ℤ → ℕ → ℤ
-verse_dy low n = cut_dy (low -ℤ pos (verse_step * n))
+verse_dy low n = cut_dy (low -ℤ pos (verse_step * (n + 1)))
 
 -- the printed form of a syllable of verse n
 abbrev pub syllable : ℤ → ℕ → List ℕ → List LaneInk

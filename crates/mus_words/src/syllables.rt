@@ -18,12 +18,12 @@ fn syllable_dx(count: usize) -> i32
     -HALF_CHARACTER * count as i32
 }
 
-/// Returns the dy of the syllables of a verse; verses are counted from 1.
+/// Returns the dy of the syllables of a verse; verses are counted from 0.
 #[tactic(auto, unfolding(crate::specs::Syllables::verse_dy))]
 fn verse_dy(low: i32, verse: u8) -> i32
     ensures { result ≡ verse_dy low verse }
 {
-    cut_dy(i64::from(low) - VERSE_STEP * i64::from(verse))
+    cut_dy(i64::from(low) - VERSE_STEP * (i64::from(verse) + 1))
 }
 
 /// Draws the printed form of a syllable.
@@ -52,9 +52,9 @@ fn put_syllable_if(
     }
 }
 
-/// Draws the syllables of an event. `words` has a place for each verse from `first` on. Those of verse n are 1000·n u
-/// below `low`, the least dy that other marks take, each centred at its column. A syllable that prints nothing is no
-/// mark. Each dy is clamped to ±2^30 u. The only error is out of memory.
+/// Draws the syllables of an event. `words` has a place for each verse from `first` on. Verses are counted from 0, and
+/// those of verse n are 1000·(n + 1) u below `low`, the least dy that other marks take, each centred at its column. A
+/// syllable that prints nothing is no mark. Each dy is clamped to ±2^30 u. The only error is out of memory.
 pub fn put_syllables(
     pen: &mut MarkPen,
     first: u8,

@@ -7,6 +7,6 @@ invariant-loop-v l = record {
   marks : l.pen.marks
       ++ parts_from (measure_part l.begins l.frame.keys.now l.frame.lengths.now l.frame.a) l.first
       (drop l.v-index l.voices)
-      ≡ parts_from (measure_part l.begins l.frame.keys.now l.frame.lengths.now l.frame.a) 1 l.voices;
-  few : l.first + verses_on (drop l.v-index l.voices) ≤ 129;
+      ≡ parts_from (measure_part l.begins l.frame.keys.now l.frame.lengths.now l.frame.a) 0 l.voices;
+  few : l.first + verses_on (drop l.v-index l.voices) ≤ 128;
 }

@@ -22,7 +22,7 @@ loop-rest-preserved c =
     let prefix = prefix_is rest v c.in-len1-up.len_at_least c.v-item.is in
     let is : next ≡ word_room_after (length keys) place v.verses part follows =
     c.in_ok-place.ensures ∙ ap (λ p. word_room_after (length keys) place v.verses p follows) c.as_slice.ensures in
-    let few : next.first + verses_on following ≤ 129 =
+    let few : next.first + verses_on following ≤ 128 =
     next_first (length keys) v following rest place next part follows prefix is so_far.verses in
     record {
       each = all_after (λ w. length w.measures ≡ length lengths) v following rest prefix so_far.each;

@@ -6,13 +6,13 @@ abbrev pub invariant-loop-rest : goal.invariant-loop-rest
 invariant-loop-rest l = record {
   each : All (λ v. length v.measures ≡ length l.frame.lengths.now) l.rest;
   good : All (λ v. AreGoodMeasures v.measures) l.rest;
-  first : l.place.first ≤ 129;
+  first : l.place.first ≤ 128;
   room : l.place.room ≡ l.fn.room;
-  verses : l.place.first + verses_on l.rest ≤ 129;
+  verses : l.place.first + verses_on l.rest ≤ 128;
   parts : l.parts
       ++ written_parts l.frame.keys.now l.frame.lengths.now l.fn.room l.frame.a l.frame.b l.place.first l.place.before
       l.rest
-      ≡ written_parts l.frame.keys.now l.frame.lengths.now l.fn.room l.frame.a l.frame.b 1 [] l.voices;
+      ≡ written_parts l.frame.keys.now l.frame.lengths.now l.fn.room l.frame.a l.frame.b 0 [] l.voices;
 }
 
 abbrev pub decreases-loop-rest : goal.decreases-loop-rest
