@@ -1,22 +1,17 @@
-ghost use Rattle.std.specs.Prelude.{◌≡◌, ◌+◌, ◌<◌, ◌≤◌, ℕ, Option, All, IfErr, IfOk, length, map, slice_index_or};
+ghost use Rattle.std.specs.Prelude.{◌≡◌, ◌<◌, ◌≤◌, All, IfErr, IfOk, length, map};
 ghost use Rattle.mus_score.specs.GoodScore.{IsGoodScore};
 ghost use Rattle.mus_onsets.specs.Onsets.{timeline_of};
 ghost use Rattle.mus_drawn.specs.Drawn.{drawn_voice};
 ghost use Rattle.mus_drawn.specs.Good.{AreGoodMeasures};
-ghost use Rattle.mus_laid.specs.Boxes.{AreGoodMarks};
 ghost use Rattle.lay_reaches.specs.Columns.{column_reach};
-ghost use Rattle.lay_breaks.specs.Breaking.{IsChosen, IsPotential, sum_from};
-ghost use Rattle.lay_breaks.specs.Spans.{AreSpans, listed};
 ghost use Rattle.lay_spans.specs.Columns.{AreMeasures};
 ghost use Rattle.lay_tune.specs.declared.layout.LayoutError.TheVariants as errors;
-ghost use Rattle.lay_tune.specs.Breakings.{IsLeastBreaking};
-ghost use Rattle.lay_tune.specs.Layout.{IsCauseIn, layout_error};
+ghost use Rattle.lay_tune.specs.Layout.{IsCauseIn, IsLayout, layout_error};
 ghost use Rattle.lay_tune.specs.Measured.{IsMeasured};
-ghost use Rattle.lay_tune.specs.Spans.{AreColumnsOf, AreSpansOf, is_forced_in, score_gaps, verses_of};
-ghost use Rattle.lay_tune.specs.Systems.{Beside, EachSpan, IsSetSystem, IsStack};
+ghost use Rattle.lay_tune.specs.Spans.{AreColumnsOf, verses_of};
 
 use crate::measures::{columns_of_measures, others_of};
-use crate::systems::{Measured, Systems, set_systems};
+use crate::systems::{Measured, set_systems};
 use eng_jobs::Jobs;
 use lay_breaks::{BreakError, Breaking, Span};
 use lay_columns::{measures_join, staff_verses};
@@ -82,22 +77,7 @@ fn lay_out_measures<R: Threads + Sync>(
     requires measured { IsMeasured measured.now }
     requires voices { voices.old ≡ map drawn_voice measured.now.score.now.voices }
     requires drawn { All (λ v. AreGoodMeasures v.measures) voices.old }
-    ensures form { IfOk result (λ l. AreSpans measured.now.score.now.measures l.spans) }
-    ensures spans { IfOk result (λ l. AreSpansOf measured.now.score.now measured.now.width l.spans) }
-    ensures chosen { IfOk result (λ l.
-        IsChosen (listed l.spans) (is_forced_in measured.now.score.now) measured.now.score.now.measures
-        l.breaking.breaks) }
-    ensures total { IfOk result (λ l. l.breaking.total ≡ sum_from (listed l.spans) 0 l.breaking.breaks) }
-    ensures least { IfOk result
-        (λ l. IsLeastBreaking measured.now.score.now measured.now.width l.breaking.breaks l.breaking.total) }
-    ensures one_each { IfOk result (λ l. length l.breaking.potentials ≡ measured.now.score.now.measures + 1) }
-    ensures potentials { IfOk result (λ l. (i : ℕ) → i ≤ measured.now.score.now.measures
-        → IsPotential (listed l.spans) (is_forced_in measured.now.score.now) i
-        (slice_index_or l.breaking.potentials i Option.None)) }
-    ensures systems { IfOk result
-        (λ l. EachSpan (IsSetSystem measured.now.score.now measured.now.width) 0 l.breaking.breaks l.systems l.placed) }
-    ensures heights { IfOk result (λ l. Beside (IsStack measured.now.score.now) l.systems l.heights) }
-    ensures texts { IfOk result (λ l. All (λ m. All (λ staff. AreGoodMarks staff.marks) m.staves) l.systems) }
+    ensures layout { IfOk result (IsLayout measured.now.score.now measured.now.width) }
     ensures no_way { IfErr result (IsCauseIn measured.now.score.now measured.now.width) }
 {
     let Measured {
@@ -115,17 +95,13 @@ fn lay_out_measures<R: Threads + Sync>(
         Err(error) => return Err(layout_error(error)),
     };
     let breaks = breaking.breaks.as_slice();
-    let Systems {
-        marks,
-        placed,
-        heights,
-    } = set_systems(alloc, measured, voices, breaks, &spans.rows)?;
+    let set = set_systems(alloc, measured, voices, breaks, &spans.rows)?;
     Ok(Layout {
         breaking,
-        systems: marks,
-        placed,
+        systems: set.marks,
+        placed: set.placed,
         spans: spans.list,
-        heights,
+        heights: set.heights,
     })
 }
 
@@ -147,18 +123,7 @@ pub fn lay_out<R: Threads + Sync>(
 ) -> Result<Layout, LayoutError>
     requires good { IsGoodScore s.now }
     requires heard { 0 < s.now.measures → 1 ≤ length s.now.voices }
-    ensures form { IfOk result (λ l. AreSpans s.now.measures l.spans) }
-    ensures spans { IfOk result (λ l. AreSpansOf s.now width l.spans) }
-    ensures chosen { IfOk result
-        (λ l. IsChosen (listed l.spans) (is_forced_in s.now) s.now.measures l.breaking.breaks) }
-    ensures total { IfOk result (λ l. l.breaking.total ≡ sum_from (listed l.spans) 0 l.breaking.breaks) }
-    ensures least { IfOk result (λ l. IsLeastBreaking s.now width l.breaking.breaks l.breaking.total) }
-    ensures one_each { IfOk result (λ l. length l.breaking.potentials ≡ s.now.measures + 1) }
-    ensures potentials { IfOk result (λ l. (i : ℕ) → i ≤ s.now.measures
-        → IsPotential (listed l.spans) (is_forced_in s.now) i (slice_index_or l.breaking.potentials i Option.None)) }
-    ensures systems { IfOk result (λ l. EachSpan (IsSetSystem s.now width) 0 l.breaking.breaks l.systems l.placed) }
-    ensures heights { IfOk result (λ l. Beside (IsStack s.now) l.systems l.heights) }
-    ensures texts { IfOk result (λ l. All (λ m. All (λ staff. AreGoodMarks staff.marks) m.staves) l.systems) }
+    ensures layout { IfOk result (IsLayout s.now width) }
     ensures no_way { IfErr result (IsCauseIn s.now width) }
 {
     let t = onsets(alloc, s)?;

@@ -1,6 +1,9 @@
 use Rattle.std.proofs.Common.{arith, subst, sym, ◌≤◌, ℕ, None, slice_index_or}
-use Rattle.{lay_breaks.specs.{Breaking.IsPotential, Spans.{AreSpans, listed}}, lay_spans.specs.Forced.{is_forced}}
+use Rattle.lay_breaks.specs.{Breaking.{IsChosen, IsPotential}, Spans.{AreSpans, listed}}
+use Rattle.lay_spans.specs.Forced.{is_forced}
 use Rattle.lay_tune.specs.Layout.{IsCauseIn}
+use Rattle.lay_tune.specs.Spans.{AreSpansOf, is_forced_in}
+use Rattle.lay_tune.specs.Systems.{EachSpan, IsSetSystem}
 use Rattle.lay_tune.proofs.Breakings.{cause_read, least_read}
 use Rattle.lay_tune.proofs.Open.{chosen_read, spans_read}
 use Rattle.lay_tune.proofs.layout.lay_out_measures.Goals as goal
@@ -28,25 +31,36 @@ set_systems-requires-clause-fits g c =
     c.as_slice-breaks.ensures c.requires.measured.measures c.requires.measured.columns c.in_ok-spans.ensures.forces
     (let narrow = c.requires.measured.wide in omega arith) c.in-Ok.ensures.chosen
 
-pub returns-clause-spans : goal.returns-clause-spans
-returns-clause-spans g c =
-    spans_read c.args.measured.now.score.now c.args.measured.now.width c.args.measured.now.starts.now
-    c.args.measured.now.others.now c.in_ok-spans.spans.list c.args.measured.now.gaps.now c.as_slice-forced.result.now
-    c.requires.measured.count c.requires.measured.gaps c.as_slice-forced.ensures
-    c.requires.measured.columns c.in_ok-spans.ensures.exact
-
-pub returns-clause-least : goal.returns-clause-least
-returns-clause-least g c =
-    least_read c.args.measured.now.score.now c.args.measured.now.width c.in_ok-spans.spans.list
-    c.as_slice-forced.result.now c.in-Ok.breaking.breaks c.in-Ok.breaking.total
-    c.as_slice-forced.ensures
-    (returns-clause-spans g c)
-    c.in-Ok.ensures.chosen c.in-Ok.ensures.total
-
-pub returns-clause-potentials : goal.returns-clause-potentials
-returns-clause-potentials g c =
-    subst (λ forced.
-    (i : ℕ) → i ≤ c.args.measured.now.score.now.measures
-    → IsPotential (listed c.in_ok-spans.spans.list) (is_forced c.args.measured.now.score.now.measures forced) i
-    (slice_index_or c.in-Ok.breaking.potentials i None))
-    c.as_slice-forced.ensures c.in-Ok.ensures.potentials
+pub returns-clause-layout : goal.returns-clause-layout
+returns-clause-layout g c =
+    let s = c.args.measured.now.score.now in
+    let width = c.args.measured.now.width in
+    let spans = c.in_ok-spans.spans.list in
+    let bars = c.as_slice-forced.ensures in
+    let count = c.requires.measured.count in
+    let exact : AreSpansOf s width spans = spans_read s width c.args.measured.now.starts.now
+    c.args.measured.now.others.now spans c.args.measured.now.gaps.now c.as_slice-forced.result.now count
+    c.requires.measured.gaps bars c.requires.measured.columns c.in_ok-spans.ensures.exact in
+    let chosen : IsChosen (listed spans) (is_forced_in s) s.measures c.in-Ok.breaking.breaks =
+    subst (λ forced. IsChosen (listed spans) (is_forced s.measures forced) s.measures c.in-Ok.breaking.breaks) bars
+    c.in-Ok.ensures.chosen in
+    record {
+      form = subst (λ n. AreSpans n spans) count c.in_ok-spans.ensures.form;
+      spans = exact;
+      chosen = chosen;
+      total = c.in-Ok.ensures.total;
+      least = least_read s width spans c.as_slice-forced.result.now c.in-Ok.breaking.breaks c.in-Ok.breaking.total bars
+          exact c.in-Ok.ensures.chosen c.in-Ok.ensures.total;
+      one_each = c.in-Ok.ensures.one_each;
+      potentials =
+          subst (λ forced.
+          (i : ℕ) → i ≤ s.measures
+          → IsPotential (listed spans) (is_forced s.measures forced) i
+          (slice_index_or c.in-Ok.breaking.potentials i None))
+          bars c.in-Ok.ensures.potentials;
+      systems =
+          subst (λ breaks. EachSpan (IsSetSystem s width) 0 breaks c.in_ok-set.set.marks c.in_ok-set.set.placed)
+          c.as_slice-breaks.ensures c.in_ok-set.ensures.systems;
+      heights = c.in_ok-set.ensures.heights;
+      texts = c.in_ok-set.ensures.good;
+    }
