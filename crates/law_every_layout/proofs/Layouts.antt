@@ -1,6 +1,6 @@
 -- Every good score is laid out on a width, or has no legal breaking there.
 use Rattle.std.specs.Prelude.{◌≤◌, ◌⊎◌}
-use Rattle.std.specs.List.{All, AllByRecursion}
+use Rattle.std.specs.List.{All, AllByRecursion, AllZip}
 use Rattle.std.proofs.Common.{ℕ, inl, inr, refl, List, [], ◌∷◌, arith}
 use Rattle.std.proofs.lemmas.List.Elements.{All-from_recursion}
 use Rattle.mus_score.specs.declared.score.Score.{Score}
@@ -17,7 +17,7 @@ use Rattle.lay_breaks.specs.Spans.{AreSpans, listed, listed_stops}
 use Rattle.lay_tune.specs.declared.layout.Layout.{Layout}
 use Rattle.lay_tune.specs.Layout.{IsLayout, IsNoWay}
 use Rattle.lay_tune.specs.Spans.{AreSpansOf, is_forced_in}
-use Rattle.lay_tune.specs.Systems.{Beside, EachSpan, IsSetSystem, IsStack}
+use Rattle.lay_tune.specs.Systems.{EachSpan, IsSetSystem, IsStack}
 use Rattle.lay_tune.proofs.Breakings.{least_of, no_way_of}
 use Rattle.lay_tune.proofs.Open.{past_last, some_of}
 use Rattle.law_every_layout.specs.Every.{EveryScoreIsLaid}
@@ -37,7 +37,7 @@ module _ (s : Score) (width : ℕ) (good : IsGoodScore s) (spans : List Span) (e
       × (ps : List Placed)
       × (hs : List Heights)
       × EachSpan (IsSetSystem s width) a bs ms ps
-      × Beside (IsStack s) ms hs
+      × AllZip (IsStack s) ms hs
       × AllByRecursion HaveGoodTexts ms
   has_systems a [] rises within fits = ([], [], [], tt, tt, tt)
   has_systems a (b ∷ bs) rises within fits =

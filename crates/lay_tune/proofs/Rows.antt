@@ -6,13 +6,7 @@ use Rattle.std.specs.List.{All}
 use Rattle.mus_laid.specs.declared.laid.StaffMarks.{StaffMarks}
 use Rattle.mus_marks.specs.Staff.{CoversLines}
 use Rattle.lay_pages.specs.Stacking.{AreGoodStaves}
-use Rattle.lay_tune.specs.Systems.{Beside, EachSpan}
-
-pub beside_more : {X Y : Type 0} (P : X → Y → Type 0) (xs : List X) (ys : List Y) (x : X) (y : Y)
-    → Beside P xs ys → P x y → Beside P (xs ++ x ∷ []) (ys ++ y ∷ [])
-beside_more P [] [] x y h p = (p, tt)
-beside_more P (w ∷ xs) (z ∷ ys) x y h p = (h.0, beside_more P xs ys x y h.1 p)
-beside_more P _ _ x y h p = absurd h
+use Rattle.lay_tune.specs.Systems.{EachSpan}
 
 -- one more span's things, whatever comes after them
 pub span_more : {X Y : Type 0} (P : ℕ → ℕ → X → Y → Type 0) (breaks : List ℕ) (xs : List X) (ys : List Y) (x : X)
@@ -34,12 +28,6 @@ pub span_count : {X Y : Type 0} (P : ℕ → ℕ → X → Y → Type 0) (a : �
 span_count P a [] [] [] h = (refl, refl)
 span_count P a (b ∷ bs) (x ∷ xs) (y ∷ ys) h = let more = span_count P b bs xs ys h.1 in (ap suc more.0, ap suc more.1)
 span_count P a _ _ _ h = absurd h
-
-pub beside_count : {X Y : Type 0} (P : X → Y → Type 0) (xs : List X) (ys : List Y)
-    → Beside P xs ys → length ys ≡ length xs
-beside_count P [] [] h = refl
-beside_count P (x ∷ xs) (y ∷ ys) h = ap suc (beside_count P xs ys h.1)
-beside_count P _ _ h = absurd h
 
 pub good_staves : (staves : List StaffMarks) → All CoversLines staves → AreGoodStaves staves
 good_staves [] h = tt

@@ -1,5 +1,6 @@
 -- The layout of a score, and why a score has none.
 use Rattle.std.specs.Prelude.{◌≡◌, ◌+◌, ◌≤◌, ℕ, ⊤, List, length, All, None, slice_index_or}
+use Rattle.std.specs.List.{AllZip}
 use Rattle.{mus_score.specs.declared.score.Score.{Score}, mus_laid.specs.Boxes.{AreGoodMarks}}
 use Rattle.lay_breaks.specs.declared.costs.Span.{Span}
 use Rattle.lay_breaks.specs.declared.breaking.BreakError.{BreakError}
@@ -10,7 +11,7 @@ use Rattle.lay_tune.specs.Spans.{AreSpansOf, is_forced_in}
 use Rattle.lay_tune.specs.declared.layout.LayoutError.TheVariants.{NoWay, Memory}
 use Rattle.lay_tune.specs.declared.layout.Layout.{Layout}
 use Rattle.lay_tune.specs.Breakings.{IsLeastBreaking, IsLegalIn, IsReachedIn}
-use Rattle.lay_tune.specs.Systems.{Beside, EachSpan, IsSetSystem, IsStack}
+use Rattle.lay_tune.specs.Systems.{EachSpan, IsSetSystem, IsStack}
 
 -- The score laid out on a width: the listed spans are exactly those that fit, the breaking is the chosen one over
 -- them and the one of least total of the score, and each of its systems has the marks that the score calls for, set
@@ -25,7 +26,7 @@ pub record IsLayout (s : Score) (width : ℕ) (l : Layout) : Type 0 where
   pub potentials : (i : ℕ)
       → i ≤ s.measures → IsPotential (listed l.spans) (is_forced_in s) i (slice_index_or l.breaking.potentials i None)
   pub systems : EachSpan (IsSetSystem s width) 0 l.breaking.breaks l.systems l.placed
-  pub heights : Beside (IsStack s) l.systems l.heights
+  pub heights : AllZip (IsStack s) l.systems l.heights
   pub texts : All (λ m. All (λ staff. AreGoodMarks staff.marks) m.staves) l.systems
 
 -- The score has no legal breaking on the width; `reached` is the greatest bar at which a legal prefix of it ends. The

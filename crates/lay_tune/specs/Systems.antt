@@ -22,13 +22,6 @@ EachSpan P a [] [] [] = ⊤
 EachSpan P a (b ∷ bs) (x ∷ xs) (y ∷ ys) = P a b x y × EachSpan P b bs xs ys
 EachSpan P a _ _ _ = ⊥
 
--- two lists of equal length, related member by member
-abbrev pub Beside : {X Y : Type 0} → (X → Y → Type 0) → List X → List Y → Type 0
-Beside P [] [] = ⊤
-Beside P [] (y ∷ ys) = ⊥
-Beside P (x ∷ xs) [] = ⊥
-Beside P (x ∷ xs) (y ∷ ys) = P x y × Beside P xs ys
-
 -- Columns at their greatest force, as it counts: set to the width, except for a ragged last system, which stays as
 -- placed.
 pub record IsJustified (gaps : List ℕ) (width : ℕ) (last : Bool) (columns : List Column) (p : Placed) : Type 0 where

@@ -1,7 +1,8 @@
 ghost use Rattle.std.specs.Prelude.{◌≡◌, ◌+◌, ◌<◌, ◌≤◌, ◌^◌, ◌==◌, ℕ, All, IfOk, length, map, slice_index};
+ghost use Rattle.std.specs.List.{AllZip};
 ghost use Rattle.{mus_drawn.specs.{Drawn.drawn_voice, Good.AreGoodMeasures}, mus_laid.specs.Boxes.{AreGoodMarks}};
 ghost use Rattle.lay_tune.specs.Measured.{IsMeasured};
-ghost use Rattle.lay_tune.specs.Systems.{AllSpans, Beside, CanBeSet, EachSpan, HaveForce, IsJustified, IsSetSystem};
+ghost use Rattle.lay_tune.specs.Systems.{AllSpans, CanBeSet, EachSpan, HaveForce, IsJustified, IsSetSystem};
 ghost use Rattle.lay_tune.specs.Systems.{IsStack};
 
 use crate::gaps::gaps_between;
@@ -141,7 +142,7 @@ pub(crate) fn set_systems(
     requires fits { AllSpans (CanBeSet measured.now.score.now measured.now.width rows.now.rows) 0 breaks.now }
     ensures systems { IfOk result
         (λ r. EachSpan (IsSetSystem measured.now.score.now measured.now.width) 0 breaks.now r.marks r.placed) }
-    ensures heights { IfOk result (λ r. Beside (IsStack measured.now.score.now) r.marks r.heights) }
+    ensures heights { IfOk result (λ r. AllZip (IsStack measured.now.score.now) r.marks r.heights) }
     ensures good { IfOk result (λ r. All (λ m. All (λ staff. AreGoodMarks staff.marks) m.staves) r.marks) }
 {
     let mut marks = Row::with_room(alloc, breaks.len())?;

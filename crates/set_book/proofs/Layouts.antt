@@ -1,5 +1,6 @@
 -- A score has one layout on a width, or one reason why it has none, and not both.
 use Rattle.std.proofs.Common.{◌≡◌, ℕ, Bool, List, [], ◌∷◌, Option, refl, subst, arith}
+use Rattle.std.specs.List.{AllZip}
 use Rattle.mus_score.specs.declared.score.Score.{Score}
 use Rattle.mus_onsets.specs.Onsets.{timeline_of}
 use Rattle.mus_laid.specs.declared.laid.SystemMarks.{SystemMarks}
@@ -13,12 +14,12 @@ use Rattle.lay_breaks.specs.Spans.{listed}
 use Rattle.lay_tune.specs.declared.layout.Layout.{Layout}
 use Rattle.lay_tune.specs.Layout.{IsLayout, IsNoWay}
 use Rattle.lay_tune.specs.Spans.{is_forced_in}
-use Rattle.lay_tune.specs.Systems.{Beside, EachSpan, IsPlaced, IsSetSystem, IsStack}
+use Rattle.lay_tune.specs.Systems.{EachSpan, IsPlaced, IsSetSystem, IsStack}
 use Rattle.lay_tune.proofs.Called.{one_system, one_tilted}
 use Rattle.set_book.proofs.Chosen.{IsBreaking, one_breaking}
 use Rattle.set_book.proofs.Justified.{one_placed}
 use Rattle.set_book.proofs.Spanned.{one_list}
-use Rattle.set_book.proofs.Stacked.{one_beside, one_stacked}
+use Rattle.set_book.proofs.Stacked.{one_zip, one_stacked}
 
 -- a score has one system of any measures on a width
 one_set : (s : Score) (width a b : ℕ) (m n : SystemMarks) (p q : Placed)
@@ -67,8 +68,8 @@ one_layout s width l m h k =
     m.placed
     (subst (λ (b : Breaking). EachSpan (IsSetSystem s width) 0 b.breaks l.systems l.placed) breaking h.systems)
     k.systems in
-    let heights = one_beside (IsStack s) (one_stacked s) m.systems l.heights m.heights
-    (subst (λ systems. Beside (IsStack s) systems l.heights) parts.0 h.heights) k.heights in
+    let heights = one_zip (IsStack s) (one_stacked s) m.systems l.heights m.heights
+    (subst (λ systems. AllZip (IsStack s) systems l.heights) parts.0 h.heights) k.heights in
     let systems = parts.0 in let placed = parts.1 in
     let made : laid_as l.breaking l.systems l.placed l.spans l.heights ≡ laid_as m.breaking m.systems m.placed m.spans
     m.heights = cc in

@@ -1,12 +1,13 @@
 -- The staves of a system are stacked in only one way.
 use Rattle.std.proofs.Common.{◌≡◌, ◌∙◌, ℕ, ℤ, pos, ◌+ℤ◌, ◌-ℤ◌, List, [], ◌∷◌, refl, sym, ap, subst, arith}
 use Rattle.std.proofs.lemmas.Int.{ints}
+use Rattle.std.specs.List.{AllZip}
 use Rattle.mus_score.specs.declared.score.Score.{Score}
 use Rattle.mus_laid.specs.declared.laid.StaffMarks.{StaffMarks}
 use Rattle.mus_laid.specs.declared.laid.SystemMarks.{SystemMarks}
 use Rattle.lay_pages.specs.declared.stacking.Heights.{Heights}
 use Rattle.lay_pages.specs.Stacking.{AreStavesStacked}
-use Rattle.lay_tune.specs.Systems.{Beside, IsStack, gaps_between}
+use Rattle.lay_tune.specs.Systems.{IsStack, gaps_between}
 
 same_base : (top b c high : ℤ) → b +ℤ high ≡ top → c +ℤ high ≡ top → b ≡ c
 same_base top b c high h k = omega (arith, ints)
@@ -43,12 +44,12 @@ one_stacked s m x y h k =
     made
 
 -- partners of things one by one are unique if each thing has one partner
-pub one_beside : {X Y : Type 0} (P : X → Y → Type 0)
-    → ((x : X) (y z : Y) → P x y → P x z → y ≡ z) → (xs : List X) (ys zs : List Y) → Beside P xs ys → Beside P xs zs
+pub one_zip : {X Y : Type 0} (P : X → Y → Type 0)
+    → ((x : X) (y z : Y) → P x y → P x z → y ≡ z) → (xs : List X) (ys zs : List Y) → AllZip P xs ys → AllZip P xs zs
     → ys ≡ zs
-one_beside P one [] [] [] h k = refl
-one_beside P one [] [] (z ∷ zs) h k = absurd k
-one_beside P one (x ∷ xs) (y ∷ ys) [] h k = absurd k
-one_beside P one (x ∷ xs) (y ∷ ys) (z ∷ zs) h k =
-    let first = one x y z h.0 k.0 in let more = one_beside P one xs ys zs h.1 k.1 in cc
-one_beside P one _ _ zs h k = absurd h
+one_zip P one [] [] [] h k = refl
+one_zip P one [] [] (z ∷ zs) h k = absurd k
+one_zip P one (x ∷ xs) (y ∷ ys) [] h k = absurd k
+one_zip P one (x ∷ xs) (y ∷ ys) (z ∷ zs) h k =
+    let first = one x y z h.0 k.0 in let more = one_zip P one xs ys zs h.1 k.1 in cc
+one_zip P one _ _ zs h k = absurd h

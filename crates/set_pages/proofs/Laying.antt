@@ -1,7 +1,7 @@
 -- The systems of a tune that is laid out on a paper: each can be shown, its columns are within the width, its boxes
 -- stay apart and its staves are under one another.
 use Rattle.std.proofs.Common.{ℕ, ◌*◌, ◌+◌, ◌-◌, ◌/◌, ◌^◌, ◌<◌, ◌≤◌, List, [], ◌∷◌, length, arith}
-use Rattle.std.specs.Prelude.{⊤, All}
+use Rattle.std.specs.{Prelude.{⊤, All}, List.AllZip}
 use Rattle.abc_fields.specs.declared.paper.Paper.{Paper}
 use Rattle.abc_fields.specs.Papers.{IsGoodPaper, body_width}
 use Rattle.mus_score.specs.declared.score.Score.{Score}
@@ -11,7 +11,7 @@ use Rattle.lay_springs.specs.declared.margin.Placed.{Placed}
 use Rattle.lay_breaks.specs.Breaking.{RisesFrom, last_from}
 use Rattle.lay_pages.specs.declared.stacking.Heights.{Heights}
 use Rattle.lay_pages.specs.Stacking.{AreGoodStaves}
-use Rattle.lay_tune.specs.Systems.{Beside, EachSpan, IsSetSystem, IsStack, StandWithin}
+use Rattle.lay_tune.specs.Systems.{EachSpan, IsSetSystem, IsStack, StandWithin}
 use Rattle.lay_tune.proofs.Open.{past_last}
 use Rattle.law_marks_in_range.specs.Shown.{IsShown}
 use Rattle.law_marks_in_range.proofs.Alike.{alike_shown}
@@ -53,7 +53,7 @@ systems_laid : (s : Score) (width a : ℕ) (breaks : List ℕ) (systems : List S
     (heights : List Heights)
     → IsGoodScore s
     → (0 < s.measures → 1 ≤ length s.voices) → width < 2 ^ 20 → RisesFrom a breaks → last_from a breaks ≤ s.measures
-    → EachSpan (IsSetSystem s width) a breaks systems placed → Beside (IsStack s) systems heights
+    → EachSpan (IsSetSystem s width) a breaks systems placed → AllZip (IsStack s) systems heights
     → AreLaid s width systems placed heights
 systems_laid s width a [] [] [] [] good some narrow rises within set stack = tt
 systems_laid s width a [] [] [] (h ∷ heights) good some narrow rises within set stack = absurd stack

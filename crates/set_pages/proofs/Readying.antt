@@ -3,6 +3,7 @@
 use Rattle.std.proofs.Common.{◌≡◌, ◌∙◌, refl, sym, ℕ, suc, ◌≤◌, true, false, if◌then◌else◌, List, [], ◌∷◌, length, None}
 use Rattle.std.proofs.Common.{arith}
 use Rattle.std.proofs.lemmas.List.Elements.{All-cons, All-head, All-nil, All-tail, All-weaker}
+use Rattle.std.proofs.lemmas.Slice.Zip.{AllZip-long}
 use Rattle.std.specs.Prelude.{All, Result, Ok, Err}
 use Rattle.abc_lines.specs.declared.book.TuneText.{TuneText}
 use Rattle.abc_lines.specs.declared.fault.Fault.{Fault}
@@ -13,7 +14,7 @@ use Rattle.abc_fields.specs.declared.paper.Paper.{Paper}
 use Rattle.abc_fields.specs.Papers.{body_height, body_width}
 use Rattle.lay_pages.specs.Filling.{first_tall}
 use Rattle.lay_tune.specs.Systems.{IsSetSystem, IsStack}
-use Rattle.lay_tune.proofs.Rows.{beside_count, span_count}
+use Rattle.lay_tune.proofs.Rows.{span_count}
 use Rattle.set_tune.specs.Terms.{Terms}
 use Rattle.set_tune.specs.declared.tune.SetTune.{SetTune}
 use Rattle.set_tune.proofs.Laid.{good_heights}
@@ -32,7 +33,7 @@ result_whole paper (Ok t) h =
     span_count (IsSetSystem t.score (body_width paper)) 0 t.breaking.breaks t.systems t.placed laid.systems in
     record {
       placed = both.1 ∙ sym both.0;
-      heights = beside_count (IsStack t.score) t.systems t.heights laid.heights;
+      heights = AllZip-long (IsStack t.score) t.systems t.heights laid.heights;
       good = good_heights t.score t.systems t.heights laid.heights;
     }
 result_whole paper (Err fault) h = tt

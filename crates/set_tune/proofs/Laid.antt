@@ -5,8 +5,9 @@ use Rattle.std.proofs.Common.{map, take, Option, Some, None, Result, Ok, Err, sy
 use Rattle.std.proofs.lemmas.List.{length-append, length-map}
 use Rattle.std.proofs.lemmas.List.Sums.{sum_by-cons}
 use Rattle.std.proofs.lemmas.List.Elements.{All-cons, All-nil}
+use Rattle.std.proofs.lemmas.Slice.Zip.{AllZip-long}
 use Rattle.std.proofs.lemmas.Option.{same_Some}
-use Rattle.std.specs.List.{cons_option, All, filter_map}
+use Rattle.std.specs.List.{cons_option, All, AllZip, filter_map}
 use Rattle.abc_lines.specs.declared.book.Line.{Line}
 use Rattle.abc_lines.specs.declared.book.TuneText.{TuneText}
 use Rattle.abc_lines.specs.declared.fault.Fault.{Fault}
@@ -34,7 +35,7 @@ use Rattle.mus_laid.specs.declared.laid.SystemMarks.{SystemMarks}
 use Rattle.lay_breaks.specs.Breaking.{RisesFrom, last_from}
 use Rattle.lay_pages.specs.declared.stacking.Heights.{Heights}
 use Rattle.lay_pages.specs.declared.titles.TitleRow.{TitleRow}
-use Rattle.lay_tune.{specs.Systems.{Beside, IsSetSystem, IsStack}, proofs.Rows.{beside_count, span_count}}
+use Rattle.lay_tune.{specs.Systems.{IsSetSystem, IsStack}, proofs.Rows.{span_count}}
 use Rattle.set_tune.specs.declared.tune.SetTune.{SetTune}
 use Rattle.set_tune.specs.Blocks.{HasGoodHeight, blocks_of, is_some_list, system_block, system_blocks, title_blocks}
 use Rattle.set_tune.specs.Terms.{Manner}
@@ -159,7 +160,7 @@ few_titles tune defaults header good is = titles_by tune defaults header (key_pl
 
 -- stacked systems have good heights
 pub good_heights : (s : Score) (systems : List SystemMarks) (heights : List Heights)
-    → Beside (IsStack s) systems heights → All HasGoodHeight heights
+    → AllZip (IsStack s) systems heights → All HasGoodHeight heights
 good_heights s [] [] h = All-nil HasGoodHeight
 good_heights s (m ∷ ms) (h ∷ hs) is =
     All-cons HasGoodHeight h hs (record { low = is.0.low; high = is.0.high }) (good_heights s ms hs is.1)
@@ -187,7 +188,7 @@ few_blocks width t good laid =
       together,
       mapped,
       count_titles t.title.rows t.title.height (is_some_list t.heights),
-      beside_count (IsStack t.score) t.systems t.heights laid.heights,
+      AllZip-long (IsStack t.score) t.systems t.heights laid.heights,
       (span_count (IsSetSystem t.score width) 0 t.breaking.breaks t.systems t.placed laid.systems).0,
       few_breaks 0 t.breaking.breaks laid.chosen.legal.rises,
       laid.chosen.legal.ends,

@@ -2,12 +2,13 @@ use Rattle.std.proofs.Common.{◌≡◌, ◌∙◌, ℕ, ◌+◌, ◌<◌, ◌�
 use Rattle.std.proofs.Common.{arith}
 use Rattle.std.proofs.lemmas.List.{append-nil, drop_all, drop_more}
 use Rattle.std.proofs.lemmas.List.Elements.{All-append, All-cons, All-nil}
-use Rattle.std.specs.List.{All}
+use Rattle.std.proofs.lemmas.Slice.Zip.{all_zipped_more}
+use Rattle.std.specs.List.{All, AllZip}
 use Rattle.mus_laid.specs.Boxes.{AreGoodMarks}
 use Rattle.mus_laid.specs.declared.laid.SystemMarks.{SystemMarks}
 use Rattle.lay_springs.specs.declared.margin.Placed.{Placed}
-use Rattle.lay_tune.specs.Systems.{AllSpans, Beside, CanBeSet, EachSpan, IsSetSystem, IsStack}
-use Rattle.lay_tune.proofs.Rows.{beside_more, span_more}
+use Rattle.lay_tune.specs.Systems.{AllSpans, CanBeSet, EachSpan, IsSetSystem, IsStack}
+use Rattle.lay_tune.proofs.Rows.{span_more}
 use Rattle.lay_tune.proofs.systems.set_systems.Goals as goal
 
 abbrev Good : SystemMarks → Type 0
@@ -40,10 +41,10 @@ loop-b-preserved c =
           (sym c.in_ok-push-2.ensures.ok)
           (span_more Is breaks c.loop-b.marks c.loop-b.placed c.in_ok-set.set.marks c.in_ok-set.set.placed c.loop-b.a b
           i next c.loop-b.invariant.systems c.in_ok-set.ensures.system));
-      heights = subst (λ marks. Beside (IsStack s) marks c.push-in-loop-b-2.new.self) (sym c.in_ok-push.ensures.ok)
-          (subst (λ heights. Beside (IsStack s) (c.loop-b.marks ++ c.in_ok-set.set.marks ∷ []) heights)
+      heights = subst (λ marks. AllZip (IsStack s) marks c.push-in-loop-b-2.new.self) (sym c.in_ok-push.ensures.ok)
+          (subst (λ heights. AllZip (IsStack s) (c.loop-b.marks ++ c.in_ok-set.set.marks ∷ []) heights)
           (sym c.in_ok-push-3.ensures.ok)
-          (beside_more (IsStack s) c.loop-b.marks c.loop-b.heights c.in_ok-set.set.marks c.in_ok-set.set.heights
+          (all_zipped_more (IsStack s) c.loop-b.marks c.loop-b.heights c.in_ok-set.set.marks c.in_ok-set.set.heights
           c.loop-b.invariant.heights c.in_ok-set.ensures.heights));
       good = subst (λ marks. All Good marks) (sym c.in_ok-push.ensures.ok)
           (All-append Good c.loop-b.marks (c.in_ok-set.set.marks ∷ []) c.loop-b.invariant.good

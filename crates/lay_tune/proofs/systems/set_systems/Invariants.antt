@@ -1,9 +1,9 @@
-use Rattle.std.{proofs.Common.{◌≡◌, ◌++◌, List, drop, map}, specs.List.All}
+use Rattle.std.{proofs.Common.{◌≡◌, ◌++◌, List, drop, map}, specs.List.{All, AllZip}}
 use Rattle.mus_laid.specs.declared.laid.SystemMarks.{SystemMarks}
 use Rattle.mus_laid.specs.Boxes.{AreGoodMarks}
 use Rattle.mus_drawn.specs.Drawn.{drawn_voice}
 use Rattle.lay_springs.specs.declared.margin.Placed.{Placed}
-use Rattle.lay_tune.specs.Systems.{AllSpans, Beside, CanBeSet, EachSpan, IsSetSystem, IsStack}
+use Rattle.lay_tune.specs.Systems.{AllSpans, CanBeSet, EachSpan, IsSetSystem, IsStack}
 use Rattle.lay_tune.proofs.systems.set_systems.Given as goal
 
 abbrev pub invariant-loop-b : goal.invariant-loop-b
@@ -12,7 +12,7 @@ invariant-loop-b l = record {
   systems : (more : List SystemMarks) (at : List Placed)
       → EachSpan (IsSetSystem l.measured.score.now l.measured.width) l.a (drop l.b-index l.breaks) more at
       → EachSpan (IsSetSystem l.measured.score.now l.measured.width) 0 l.breaks (l.marks ++ more) (l.placed ++ at);
-  heights : Beside (IsStack l.measured.score.now) l.marks l.heights;
+  heights : AllZip (IsStack l.measured.score.now) l.marks l.heights;
   good : All (λ m. All (λ staff. AreGoodMarks staff.marks) m.staves) l.marks;
   fits : AllSpans (CanBeSet l.measured.score.now l.measured.width l.rows.rows) l.a (drop l.b-index l.breaks);
 }
