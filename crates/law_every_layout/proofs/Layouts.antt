@@ -1,5 +1,5 @@
 -- Every good score is laid out on a width, or has no legal breaking there.
-use Rattle.std.specs.Prelude.{◌≤◌, ◌⊎◌}
+use Rattle.std.specs.Prelude.{◌<◌, ◌≤◌, ◌⊎◌, length}
 use Rattle.std.specs.List.{All, AllByRecursion, AllZip}
 use Rattle.std.proofs.Common.{ℕ, inl, inr, refl, List, [], ◌∷◌, arith}
 use Rattle.std.proofs.lemmas.List.Elements.{All-from_recursion}
@@ -30,7 +30,8 @@ use Rattle.law_every_layout.proofs.Stacked.{has_stack}
 abbrev HaveGoodTexts : SystemMarks → Type 0
 HaveGoodTexts m = All (λ staff. AreGoodMarks staff.marks) m.staves
 
-module _ (s : Score) (width : ℕ) (good : IsGoodScore s) (spans : List Span) (exact : AreSpansOf s width spans) where
+module _ (s : Score) (width : ℕ) (good : IsGoodScore s) (heard : 0 < s.measures → 1 ≤ length s.voices)
+    (spans : List Span) (exact : AreSpansOf s width spans) where
   -- the systems of bars whose spans are listed
   has_systems : (a : ℕ) (bs : List ℕ) → RisesFrom a bs → last_from a bs ≤ s.measures → FitsFrom (listed spans) a bs
       → (ms : List SystemMarks)
@@ -42,8 +43,9 @@ module _ (s : Score) (width : ℕ) (good : IsGoodScore s) (spans : List Span) (e
   has_systems a [] rises within fits = ([], [], [], tt, tt, tt)
   has_systems a (b ∷ bs) rises within fits =
       let past = past_last b bs rises.1 in let cost = some_of (listed spans a b) fits.0 in
+      let inside : b ≤ s.measures = omega (arith, past, within) in
       let set =
-      has_set_system s width a b cost.0 (exact.each a b cost.0 rises.0 (omega (arith, past, within)) cost.1) in
+      has_set_system s width a b cost.0 good heard rises.0 inside (exact.each a b cost.0 rises.0 inside cost.1) in
       let stack = has_stack s a b set.1.at set.0 good set.2.tilted in
       let more = has_systems b bs rises.1 within fits.1 in (
         set.0 ∷ more.0,
@@ -89,4 +91,4 @@ module _ (s : Score) (width : ℕ) (good : IsGoodScore s) (spans : List Span) (e
 
 pub every_score : EveryScoreIsLaid
 every_score s width good heard =
-    let listed = has_spans s width good heard in has_layout s width good listed.0 listed.2 listed.1
+    let listed = has_spans s width good heard in has_layout s width good heard listed.0 listed.2 listed.1

@@ -7,6 +7,7 @@ use Rattle.std.proofs.lemmas.Bool.{cases_lt, true≢false}
 use Rattle.std.proofs.lemmas.Int.{ints}
 use Rattle.std.proofs.lemmas.List.FromFn.{get_or-map-range_with_len, length-map-range_with_len}
 use Rattle.mus_score.specs.declared.score.Score.{Score}
+use Rattle.mus_score.specs.GoodScore.{IsGoodScore}
 use Rattle.mus_onsets.specs.Onsets.{timeline_of}
 use Rattle.mus_laid.specs.declared.laid.SystemMarks.{SystemMarks}
 use Rattle.mus_marks.specs.System.{drawn_staves}
@@ -23,6 +24,7 @@ use Rattle.lay_reaches.{specs.{declared.column.Column.Column, Columns.column_rea
 use Rattle.lay_tune.specs.Spans.{IsForceOf, IsSpanCost, column_length, score_gaps, system_columns, verses_of}
 use Rattle.lay_tune.specs.Systems.{IsJustified, IsSetSystem}
 use Rattle.lay_tune.proofs.Called.{has_system}
+use Rattle.lay_tune.proofs.Within.{placed_ends}
 use Rattle.law_every_layout.proofs.Spans.{columns_near, columns_short}
 
 -- what a width leaves past an end
@@ -109,8 +111,9 @@ module _ (columns : List Column) (gaps : List ℕ) (width force : ℕ)
 
 -- a span that has a cost has a system, set to the width
 pub has_set_system : (s : Score) (width a b v : ℕ)
-    → IsSpanCost s width a b v → (m : SystemMarks) × (p : Placed) × IsSetSystem s width a b m p
-has_set_system s width a b v cost =
+    → IsGoodScore s → (0 < s.measures → 1 ≤ length s.voices) → a < b → b ≤ s.measures → IsSpanCost s width a b v
+    → (m : SystemMarks) × (p : Placed) × IsSetSystem s width a b m p
+has_set_system s width a b v good heard rises within cost =
     let flat = has_system s a b in
     let placed = has_justified (system_columns s flat.0) (score_gaps s) width cost.pressed.0
     (λ lane l. gaps_narrow (verses_of s) lane 0 l) (cost.pressed.2 flat.0 flat.1) (flat.0.b == s.measures) in
@@ -129,6 +132,7 @@ has_set_system s width a b v cost =
         flat = flat.0;
         called = flat.1;
         placed = placed.1;
+        ends = placed_ends s width a b flat.0 placed.0 good heard rises within flat.1 placed.1;
         tilted = tilted;
         alike = tilted_alike s (timeline_of s) a b placed.0.at m tilted flat.0 flat.1;
       },

@@ -1,20 +1,24 @@
 -- Columns that are apart rise from 0, and those of a system end within the width.
 use Rattle.std.proofs.Common.{◌≡◌, ◌∙◌, sym, ap, subst, refl, inl, inr, ℕ, ◌+◌, ◌-◌, ◌*◌, ◌/◌, ◌<◌, ◌≤◌}
 use Rattle.std.proofs.Common.{◌==◌, ◌^◌, ℤ, pos, ◌+ℤ◌, ◌≤ℤ◌, Bool, true, false, List, length, map, Option, Some}
-use Rattle.std.proofs.Common.{arith}
+use Rattle.std.proofs.Common.{[], ◌∷◌, zero, suc, ◌-ℤ◌, arith}
 use Rattle.std.proofs.lemmas.Bool.{cases_lt}
 use Rattle.std.proofs.lemmas.Bool.Decides.{nat_tests}
 use Rattle.std.proofs.lemmas.Int.{ints}
 use Rattle.std.proofs.lemmas.List.{length-map}
+use Rattle.std.specs.List.{Contains}
 use Rattle.mus_score.specs.declared.score.Score.{Score}
-use Rattle.mus_onsets.specs.Keys.{AreKeys, called_keys}
+use Rattle.mus_score.specs.GoodScore.{IsGoodScore}
+use Rattle.mus_onsets.specs.declared.keys.ColumnKey.{ColumnKey}
+use Rattle.mus_onsets.specs.Keys.{AreKeys, bar_key, called_keys, head_key}
 use Rattle.mus_onsets.specs.Onsets.{timeline_of}
 use Rattle.mus_laid.specs.declared.laid.SystemMarks.{SystemMarks}
 use Rattle.mus_marks.specs.Tilt.{AreAbscissas}
+use Rattle.mus_marks.proofs.Inside.{bars_inside, head_inside}
 use Rattle.mus_marks.proofs.OneList.{same_keys}
 use Rattle.lay_springs.specs.declared.traits.Reach.{Reach}
 use Rattle.lay_springs.specs.declared.margin.Placed.{Placed}
-use Rattle.lay_springs.specs.Fit.{Fits, IsSet, counted, is_ragged}
+use Rattle.lay_springs.specs.Fit.{Fits, IsEndOf, IsSet, counted, is_ragged}
 use Rattle.lay_springs.specs.Place.{IsPlace, StandApart, length_at, reach_at}
 use Rattle.lay_springs.proofs.Ends.{apart_down, length_rises as lengths_rise}
 use Rattle.lay_springs.proofs.Longer.{rises}
@@ -26,7 +30,7 @@ use Rattle.lay_spans.specs.Columns.{span_columns}
 use Rattle.lay_spans.proofs.Fitting.{seen_as}
 use Rattle.lay_tune.specs.Spans.{AreColumnsOf, IsForceOf, IsSystemOf, column_length, score_gaps, system_columns}
 use Rattle.lay_tune.specs.Spans.{verses_of}
-use Rattle.lay_tune.specs.Systems.{CanBeSet, HaveForce, IsJustified, IsPlaced, StandWithin, x_at}
+use Rattle.lay_tune.specs.Systems.{CanBeSet, EndAtWidth, HaveForce, IsJustified, IsPlaced, StandWithin, x_at}
 use Rattle.lay_tune.proofs.Called.{has_system}
 
 -- the last of n columns is within the width, and reaches no further
@@ -79,9 +83,11 @@ module _ (n : ℕ) (reach : ℕ → ℕ → Option Reach) (gaps : List ℕ) (spr
   share_whole : (rest d : ℕ) → 0 < d → rest * d / d ≡ rest
   share_whole rest d l = grind arith
 
-  -- the last of columns that are set moves by all that was left
-  moved_within : (at : List ℤ) → 1 < n → IsSet n reach gaps spring width weak at → EndsWithin n reach gaps width at
-  moved_within at several is =
+  -- the last of columns that are set moves by all that was left, so it ends exactly at the width
+  pub set_ends : (at : List ℤ)
+      → 1 < n → IsSet n reach gaps spring width weak at
+      → IsEndOf (reach (n - 1)) (length gaps) (x_at at (n - 1)) (pos width)
+  set_ends at several is =
       let m = is.moved several in
       let rest = m.1 in
       let whole : rest * (n - 1) / (n - 1) ≡ rest = share_whole rest (n - 1) (omega arith) in
@@ -90,7 +96,15 @@ module _ (n : ℕ) (reach : ℕ → ℕ → Option Reach) (gaps : List ℕ) (spr
       record {
         past = let a = m.2.past in omega (arith, ints);
         reaches = λ lane r l e. let a = m.2.reaches lane r l e in omega (arith, ints);
+        least = λ v past reached.
+            let low = m.2.least (v -ℤ pos rest) (omega (arith, ints))
+            (λ lane r l e. let a = reached lane r l e in omega (arith, ints)) in
+            omega (arith, ints);
       }
+
+  moved_within : (at : List ℤ) → 1 < n → IsSet n reach gaps spring width weak at → EndsWithin n reach gaps width at
+  moved_within at several is =
+      let end = set_ends at several is in record { past = end.past; reaches = end.reaches }
 
   pub set_within : (at : List ℤ)
       → 0 < n → ((i : ℕ) → spring weak i ≤ spring force i) → Fits n reach gaps spring width force
@@ -193,6 +207,41 @@ span_set {s} {width} {a} {b} {rows} {gaps} starts others columns fits join are i
           (subst (λ keys. AreKeys keys (called_keys s (timeline_of s).lengths a b))
           (sym (columns_keys m.staves (timeline_of s).lengths (verses_of s) 0 m.keys)) call.keys),
     )
+
+-- a list that has two keys has more than one
+two_keys : (keys : List ColumnKey) (k l : ColumnKey)
+    → Contains keys k → Contains keys l → (k ≡ l → ⊥) → 1 < length keys
+two_keys [] k l (i, inside, is) g apart = absurd (omega (arith, inside))
+two_keys (x ∷ []) k l (zero, inside, is) (zero, within, same) apart = absurd (apart (sym is ∙ same))
+two_keys (x ∷ []) k l (suc i, inside, is) g apart = absurd (omega (arith, inside))
+two_keys (x ∷ []) k l h (suc i, inside, is) apart = absurd (omega (arith, inside))
+two_keys (x ∷ y ∷ keys) k l h g apart = omega arith
+
+not_bar : (lengths : List ℕ) (a m : ℕ) → head_key a ≡ bar_key lengths m → ⊥
+not_bar lengths a m e = let same = ap (λ (k : ColumnKey). k.class) e in cc
+
+-- a system has a head and the bar of its first measure
+pub several_columns : (s : Score) (a b : ℕ) (m : SystemMarks)
+    → IsGoodScore s → (0 < s.measures → 1 ≤ length s.voices) → a < b → b ≤ s.measures → IsSystemOf s a b m
+    → 1 < length (system_columns s m)
+several_columns s a b m good heard rises within call =
+    let lengths = (timeline_of s).lengths in
+    let some = heard (omega (arith, rises, within)) in
+    let bar = bars_inside s lengths a b m.keys good some within call.keys 0 (omega (arith, rises)) in
+    subst (λ n. 1 < n) (sym (system_count s m))
+    (two_keys m.keys (head_key a) (bar_key lengths (a + 0)) (head_inside s lengths a b m.keys good some call.keys) bar
+    (not_bar lengths a (a + 0)))
+
+-- so it ends exactly at the width, unless it is ragged
+pub placed_ends : (s : Score) (width a b : ℕ) (m : SystemMarks) (p : Placed)
+    → IsGoodScore s → (0 < s.measures → 1 ≤ length s.voices) → a < b → b ≤ s.measures → IsSystemOf s a b m
+    → IsPlaced s width m p
+    → p.ragged ≡ false
+    → EndAtWidth (score_gaps s) width (system_columns s m) p.at
+placed_ends s width a b m p good heard rises within call placed loose =
+    let columns = system_columns s m in
+    set_ends (length columns) (reach_at column_reach columns) (score_gaps s) (length_at column_length columns) width
+    p.force p.force p.at (several_columns s a b m good heard rises within call) (placed.set loose)
 
 -- they are within the width wherever they are placed
 pub placed_stand : (s : Score) (width : ℕ) (m : SystemMarks) (p : Placed)

@@ -8,6 +8,7 @@ use Rattle.lay_tune.specs.{declared.systems.Measured.Measured, Spans.{AreColumns
 
 pub record IsMeasured (m : Measured) : Type 0 where
   pub good : IsGoodScore m.score.now
+  pub heard : 0 < m.score.now.measures → 1 ≤ length m.score.now.voices
   pub times : m.times.now ≡ timeline_of m.score.now
   pub count : length m.starts.now ≡ m.score.now.measures
   pub measures : AreMeasures column_reach (length (score_gaps m.score.now)) m.starts.now m.others.now

@@ -1,6 +1,6 @@
 -- The systems of a breaking: the abscissas of their columns, and their stacked staves.
-use Rattle.std.specs.Prelude.{◌≡◌, ⊤, ℕ, ◌+◌, ◌<◌, ◌≤◌, ◌==◌, ◌^◌, Bool, true, false, not, ℤ, pos, ◌-ℤ◌, ◌≤ℤ◌, ◌<ℤ◌}
-use Rattle.std.specs.Prelude.{List, [], ◌∷◌, length, map, filter, drop, Some, slice_index_or}
+use Rattle.std.specs.Prelude.{◌≡◌, ⊤, ℕ, ◌+◌, ◌-◌, ◌<◌, ◌≤◌, ◌==◌, ◌^◌, Bool, true, false, not, ℤ, pos}
+use Rattle.std.specs.Prelude.{◌-ℤ◌, ◌≤ℤ◌, ◌<ℤ◌, List, [], ◌∷◌, length, map, filter, drop, Some, slice_index_or}
 use Rattle.mus_score.specs.declared.score.Score.{Score}
 use Rattle.mus_score.specs.declared.score.Voice.{Voice}
 use Rattle.mus_score.specs.Seats.{stands_lower}
@@ -10,7 +10,7 @@ use Rattle.mus_laid.specs.Shapes.{HaveSameShapes}
 use Rattle.{mus_marks.specs.Tilt.{IsTilted}, lay_reaches.specs.{declared.column.Column.Column, Columns.column_reach}}
 use Rattle.lay_springs.specs.declared.margin.Placed.{Placed}
 use Rattle.lay_springs.specs.Place.{IsPlace, StandApart, length_at, reach_at}
-use Rattle.lay_springs.specs.Fit.{IsSet, counted, is_ragged}
+use Rattle.lay_springs.specs.Fit.{IsEndOf, IsSet, counted, is_ragged}
 use Rattle.lay_rows.specs.Costs.{force_in}
 use Rattle.lay_pages.specs.declared.stacking.Heights.{Heights}
 use Rattle.lay_pages.specs.Stacking.{AreStavesStacked}
@@ -21,6 +21,16 @@ abbrev pub EachSpan : {X Y : Type 0} → (ℕ → ℕ → X → Y → Type 0) �
 EachSpan P a [] [] [] = ⊤
 EachSpan P a (b ∷ bs) (x ∷ xs) (y ∷ ys) = P a b x y × EachSpan P b bs xs ys
 EachSpan P a _ _ _ = ⊥
+
+-- the abscissa of the column of a rank
+abbrev pub x_at : List ℤ → ℕ → ℤ
+x_at at rank = slice_index_or at rank (pos 0)
+
+-- the last of some columns, at its abscissa, ends exactly at the width
+abbrev pub EndAtWidth : List ℕ → ℕ → List Column → List ℤ → Type 0
+EndAtWidth gaps width columns at =
+    IsEndOf (reach_at column_reach columns (length columns - 1)) (length gaps) (x_at at (length columns - 1))
+    (pos width)
 
 -- Columns at their greatest force, as it counts: set to the width, except for a ragged last system, which stays as
 -- placed.
@@ -41,11 +51,12 @@ abbrev pub IsPlaced : Score → ℕ → SystemMarks → Placed → Type 0
 IsPlaced s width m p = IsJustified (score_gaps s) width (m.b == s.measures) (system_columns s m) p
 
 -- What a score has in measures a to b - 1, set to a width: the columns of the marks that it calls for are justified,
--- and the marks are tilted over their abscissas.
+-- and the marks are tilted over their abscissas. Unless it is ragged, it ends exactly at the width.
 pub record IsSetSystem (s : Score) (width a b : ℕ) (m : SystemMarks) (p : Placed) : Type 0 where
   pub flat : SystemMarks
   pub called : IsSystemOf s a b flat
   pub placed : IsPlaced s width flat p
+  pub ends : p.ragged ≡ false → EndAtWidth (score_gaps s) width (system_columns s flat) p.at
   pub tilted : IsTilted s (timeline_of s) a b p.at m
   pub alike : HaveSameShapes flat m
 
@@ -77,10 +88,6 @@ pub record CanBeSet (s : Score) (width : ℕ) (rows : List (List ℕ)) (a b : �
 abbrev pub AllSpans : (ℕ → ℕ → Type 0) → ℕ → List ℕ → Type 0
 AllSpans P a [] = ⊤
 AllSpans P a (b ∷ bs) = P a b × AllSpans P b bs
-
--- the abscissa of the column of a rank
-abbrev pub x_at : List ℤ → ℕ → ℤ
-x_at at rank = slice_index_or at rank (pos 0)
 
 -- columns rise from the left within the width
 pub record StandWithin (width count : ℕ) (at : List ℤ) : Type 0 where

@@ -17,6 +17,7 @@ lay_out_measures-requires-clause-measured g c κs within =
     let verses : c.as_slice-verses.result.now ≡ verses_of c.args.s.now = search rules in
     record {
       good = c.requires.good;
+      heard = c.requires.heard;
       times = search rules;
       count = search rules;
       measures = search rules;

@@ -5,11 +5,11 @@ use Rattle.mus_onsets.specs.Keys.{AreKeys, called_keys}
 use Rattle.mus_onsets.specs.Onsets.{timeline_of}
 use Rattle.mus_marks.specs.System.{IsCall, drawn_staves}
 use Rattle.mus_marks.specs.Tilt.{AreAbscissas, IsTilted, tilted_staff}
-use Rattle.lay_tune.specs.Systems.{HaveForce, gaps_between}
+use Rattle.lay_tune.specs.Systems.{HaveForce, IsPlaced, gaps_between}
 use Rattle.lay_tune.proofs.Called.{has_system}
 use Rattle.lay_tune.proofs.Open.{gaps_count, staves_count}
 use Rattle.lay_tune.proofs.Rows.{good_staves}
-use Rattle.lay_tune.proofs.Within.{abscissas_of, span_set}
+use Rattle.lay_tune.proofs.Within.{abscissas_of, placed_ends, span_set}
 use Rattle.lay_tune.proofs.systems.set_system.Goals as goal
 
 pub press-requires-clause-fits : goal.press-requires-clause-fits
@@ -74,15 +74,19 @@ stack-requires-clause-gaps c =
 pub returns-clause-system : goal.returns-clause-system
 returns-clause-system c =
     let s = c.args.measured.now.score.now in let flat = has_system s c.args.a c.args.b in
-    let tilted = c.in_ok-marks in record {
+    let tilted = c.in_ok-marks in
+    let placed : IsPlaced s c.args.measured.now.width flat.0 c.in_ok-placed.placed =
+    (span_set c.args.measured.now.starts.now c.args.measured.now.others.now
+    (map (λ s. s.column.now) c.as_slice-columns.result.now) c.requires.fits c.requires.measured.columns
+    c.requires.measured.gaps
+    (ap (map (λ s. s.column.now)) c.as_slice-columns.ensures ∙ c.in_ok-seen.ensures)).1 c.in_ok-placed.placed
+    c.in_ok-placed.ensures in
+    record {
       flat = flat.0;
       called = flat.1;
-      placed =
-          (span_set c.args.measured.now.starts.now c.args.measured.now.others.now
-          (map (λ s. s.column.now) c.as_slice-columns.result.now) c.requires.fits c.requires.measured.columns
-          c.requires.measured.gaps
-          (ap (map (λ s. s.column.now)) c.as_slice-columns.ensures ∙ c.in_ok-seen.ensures)).1 c.in_ok-placed.placed
-          c.in_ok-placed.ensures;
+      placed = placed;
+      ends = placed_ends s c.args.measured.now.width c.args.a c.args.b flat.0 c.in_ok-placed.placed
+          c.requires.measured.good c.requires.measured.heard c.requires.fits.rises c.requires.fits.within flat.1 placed;
       tilted =
           subst (λ t. IsTilted s t c.args.a c.args.b c.in_ok-placed.placed.at tilted.marks) c.requires.measured.times
           (subst (λ at. IsTilted s c.args.measured.now.times.now c.args.a c.args.b at tilted.marks)
