@@ -26,6 +26,7 @@ use Rattle.set_tune.specs.Setting.{layout_fault, of_header, of_score, of_share, 
 use Rattle.set_tune.specs.Terms.{Terms, terms_by}
 use Rattle.set_tune.specs.declared.tune.SetTune.{SetTune}
 use Rattle.set_tune.specs.Blocks.{blocks_of}
+use Rattle.set_tune.proofs.Apart.{staves_apart}
 use Rattle.set_tune.proofs.Laid.{heard_moved}
 use Rattle.set_book.specs.{declared.outcome.Outcome.Outcome, Outcomes.{AreOutcomes, IsOutcome, IsResult}}
 use Rattle.law_every_outcome.specs.Every.{EveryTuneHasAnOutcome}
@@ -66,7 +67,13 @@ module _ (every_text : EveryTextIsRead) (every_score : EveryScoreIsLaid) (said :
         elim (every_score score (body_width terms.paper) has.good
         (heard_moved tune terms.defaults terms.manner header score has)) [
           | inl l ↦
-              stands (tune_of header score l.0) (record { score = has; title = refl; layout = l.1 })
+              stands (tune_of header score l.0) (record {
+                score = has;
+                title = refl;
+                layout = l.1;
+                apart = staves_apart tune terms.defaults terms.manner header score l.0.systems l.0.heights has
+                    l.1.heights;
+              })
               (first_tall (body_height terms.paper)
               (blocks_of (tune_of header score l.0).title (tune_of header score l.0).heights))
               refl

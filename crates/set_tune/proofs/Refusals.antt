@@ -14,6 +14,7 @@ use Rattle.set_tune.specs.Blocks.{blocks_of}
 use Rattle.set_tune.specs.Setting.{HasScore, IsFaultOfTune, IsLaid, IsLaidOut, IsLaidTune, IsLayoutRefusal}
 use Rattle.set_tune.specs.Setting.{IsMovedRefusal, IsRefusal, IsTallRefusal, of_header, of_score, of_share, of_move}
 use Rattle.set_tune.specs.Setting.{no_way, too_tall}
+use Rattle.set_tune.proofs.Apart.{staves_apart}
 
 pub none_some : {X : Type 0} (x : X) → None ≡ Some x → ⊥
 none_some x e = cc
@@ -49,6 +50,8 @@ laid_tune tune terms header score width t has is laid = record {
   title = subst (λ w. t.title ≡ title_block_of w t.header.titles t.header.composers t.header.tempo) is
       (subst (λ (h : Header). t.title ≡ title_block_of width h.titles h.composers h.tempo) (sym laid.head) laid.title);
   layout = subst (λ w. IsLaidOut w t) is laid.layout;
+  apart = staves_apart tune terms.defaults terms.manner header t.score t.systems t.heights
+      (subst (λ s. HasScore tune terms.defaults terms.manner header s) (sym laid.music) has) laid.layout.heights;
 }
 
 tall_error : (tune : TuneText) (terms : Terms) (high : ℕ) (t : SetTune) (e : TuneError)

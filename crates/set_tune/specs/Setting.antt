@@ -25,6 +25,7 @@ use Rattle.mus_units.specs.declared.key.Key.{Key}
 use Rattle.mus_transpose.specs.Moved.{IsMoved}
 use Rattle.mus_drawn.specs.Sounds.{sounds_of}
 use Rattle.law_transposition.specs.Higher.{AreHigher}
+use Rattle.set_tune.specs.Staves.{KeepStavesApart}
 use Rattle.set_tune.specs.Terms.{Manner, Terms}
 use Rattle.set_tune.specs.declared.tune.SetTune.{SetTune}
 use Rattle.set_tune.specs.Blocks.{blocks_of}
@@ -114,6 +115,8 @@ pub record IsLaidTune (tune : TuneText) (terms : Terms) (t : SetTune) : Type 0 w
   pub score : HasScore tune terms.defaults terms.manner t.header t.score
   pub title : t.title ≡ title_block_of (body_width terms.paper) t.header.titles t.header.composers t.header.tempo
   pub layout : IsLaidOut (body_width terms.paper) t
+  -- staves are at least 500 apart
+  pub apart : KeepStavesApart t.systems t.heights
 
 -- A tune that is set: none of its groups of blocks is higher than the page.
 pub record IsSetTune (tune : TuneText) (terms : Terms) (t : SetTune) : Type 0 where
