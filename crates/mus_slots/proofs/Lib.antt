@@ -1,0 +1,4 @@
+pub mod ByKey
+pub mod KeysOf
+pub mod Parts
+pub mod Rising

@@ -1,0 +1,2 @@
+pub mod Staff
+pub mod Voice
