@@ -56,7 +56,7 @@ bridges_at keys voices = map (bridge_at keys) (flat_map (λ v. v.bridges) voices
 abbrev pub bare_laid : List ColumnKey → List VoiceSlots → List Laid
 bare_laid keys voices = flat_map (bare_slots keys) voices ++ bridges_at keys voices
 
--- words are outside of all other marks of their staff, which has so many verses
+-- words are outside of all other marks of their staff, whose verses have this number
 abbrev pub place_outside : ℕ → List Laid → TextPlace
 place_outside verses others = record {
   low = cut_dy (staff_heights others).low;
