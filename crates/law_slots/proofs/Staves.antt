@@ -70,10 +70,10 @@ each_same f g same (k ∷ ks) = ap (λ t. t ++ flat_map f ks) (same k) ∙ ap (�
 
 module _ (keys : List ColumnKey) (rise : Rises keys) (lengths : List ℕ) (room : StaffRoom) (a b : ℕ) where
   abbrev column : List DrawnVoice → ColumnKey → List Laid
-  column vs = column_at keys (text_place room no_texts) (all_slots (slots_of_voices 1 lengths a b vs))
+  column vs = column_at keys (text_place room no_texts) (all_slots (slots_of_voices 0 lengths a b vs))
 
   abbrev parts : List DrawnVoice → List (List Laid)
-  parts vs = written_parts keys lengths room a b 1 [] vs
+  parts vs = written_parts keys lengths room a b 0 [] vs
 
   several : (vs : List DrawnVoice)
       → AllByRecursion (IsSlotted keys lengths a b) vs
@@ -84,14 +84,14 @@ module _ (keys : List ColumnKey) (rise : Rises keys) (lengths : List ℕ) (room 
       let here = rank_at_place keys i d rise inside in
       let e : 0 + i ≡ key_rank keys k = omega (arith, here) in
       ap (at_rank (parts vs)) e
-      ∙ voices_column keys lengths room a b k 1 [] vs (Contains-get_or keys i d inside) all)
+      ∙ voices_column keys lengths room a b k 0 [] vs (Contains-get_or keys i d inside) all)
 
   alone : (v : DrawnVoice)
       → IsSlotted keys lengths a b v
-      → own_part keys lengths (Some (record { room = room; first = 1; before = [] })) a b v
+      → own_part keys lengths (Some (record { room = room; first = 0; before = [] })) a b v
       ≡ flat_map (column (v ∷ [])) keys
   alone v is =
-      let place : WordRoom = record { room = room; first = 1; before = [] } in
+      let place : WordRoom = record { room = room; first = 0; before = [] } in
       let ss = voice_slots 1 lengths a b v in
       voice_laid keys (Some place) 1 refl lengths a b v
       ∙ in_order key_of (slot_laid keys (Some place)) keys ss rise (slots_rise v is 1) (slots_inside v is 1)
@@ -111,10 +111,10 @@ module _ (keys : List ColumnKey) (rise : Rises keys) (lengths : List ℕ) (room 
 
 pub staff_same : (keys : List ColumnKey) (lengths : List ℕ) (a b : ℕ) (vs : List DrawnVoice)
     → Rises keys → AllByRecursion (IsSlotted keys lengths a b) vs
-    → (staff_marks keys lengths a b vs).marks ≡ staff_laid keys (verses_on vs) (slots_of_voices 1 lengths a b vs)
+    → (staff_marks keys lengths a b vs).marks ≡ staff_laid keys (verses_on vs) (slots_of_voices 0 lengths a b vs)
 unfolding staff_marks staff_over staff_laid
 staff_same keys lengths a b vs rise all =
-    let voices = slots_of_voices 1 lengths a b vs in
+    let voices = slots_of_voices 0 lengths a b vs in
     let others = bare_marks keys lengths a b vs in
     let room = room_over (verses_on vs) others in
     ap (λ t. t ++ staff_bridges keys lengths a b vs) (columns_same keys rise lengths room a b vs all)

@@ -17,7 +17,7 @@ use Rattle.mus_marks.specs.Tilt.{tilted_staff, voice_tilted}
 -- the staff of these voices, from their slots in measures a to b - 1
 abbrev pub slotted_staff : List ColumnKey → List ℕ → ℕ → ℕ → List DrawnVoice → StaffMarks
 slotted_staff keys lengths a b voices =
-    staff_over (staff_laid keys (verses_on voices) (slots_of_voices 1 lengths a b voices))
+    staff_over (staff_laid keys (verses_on voices) (slots_of_voices 0 lengths a b voices))
 
 -- the same for these voices when they are tilted over abscissas
 abbrev pub tilted_slots : List ColumnKey → List ℕ → List ℤ → ℕ → ℕ → List DrawnVoice → StaffMarks

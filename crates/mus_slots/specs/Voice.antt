@@ -33,7 +33,7 @@ use Rattle.mus_slots.specs.declared.slots.Written.{Written}
 
 -- a slot without words
 abbrev pub nothing : Written
-nothing = record { first = 1; syllables = []; above = []; below = [] }
+nothing = record { first = 0; syllables = []; above = []; below = [] }
 
 abbrev pub slot : ColumnKey → List LaneInk → Slot
 slot key drawn = record { key = key; drawn = drawn; written = nothing }
