@@ -4,6 +4,7 @@ use Rattle.std.proofs.Common.{List, [], ◌∷◌, arith}
 use Rattle.std.proofs.lemmas.Bool.Decides.{nat_tests}
 use Rattle.std.proofs.lemmas.Int.{ints}
 use Rattle.std.specs.Prelude.{◌||◌, nat_le}
+use Rattle.lay_pages.specs.Distances.{block_gap}
 use Rattle.lay_pages.specs.declared.filling.Block.{Block}
 use Rattle.lay_pages.specs.declared.filling.BlockSpot.{BlockSpot}
 use Rattle.lay_pages.specs.Filling.{AreGoodBlocks, height_number, group_height, under, place_by, next_place, spot_at}
@@ -11,7 +12,7 @@ use Rattle.lay_pages.specs.Filling.{spots_from, spots_of, Follows, same_page, ne
 
 pub below : (high down : ℕ) (height : ℤ)
     → pos 0 ≤ℤ height
-    → pos high -ℤ pos (down + height_number height + 1500) ≡ ((pos high -ℤ pos down) -ℤ height) -ℤ pos 1500
+    → pos high -ℤ pos (down + height_number height + block_gap) ≡ ((pos high -ℤ pos down) -ℤ height) -ℤ pos block_gap
 below high down (pos n) good = omega (arith, ints)
 below high down (negsuc n) good = absurd (omega (arith, ints))
 
@@ -20,10 +21,10 @@ at_top high = omega (arith, ints)
 
 too_high : (high down group : ℕ) (height : ℤ)
     → pos 0 ≤ℤ height
-    → nat_le (down + height_number height + 1500 + group) high ≡ false
-    → (((pos high -ℤ pos down) -ℤ height) -ℤ pos 1500) <ℤ pos group
+    → nat_le (down + height_number height + block_gap + group) high ≡ false
+    → (((pos high -ℤ pos down) -ℤ height) -ℤ pos block_gap) <ℤ pos group
 too_high high down group (pos n) good miss =
-    let past : high + 1 ≤ down + n + 1500 + group = grind (arith, nat_tests) in omega (arith, ints, past)
+    let past : high + 1 ≤ down + n + block_gap + group = grind (arith, nat_tests) in omega (arith, ints, past)
 too_high high down group (negsuc n) good miss = absurd (omega (arith, ints))
 
 follows : (high : ℕ) (place : BlockSpot) (block : Block) (more : List Block)

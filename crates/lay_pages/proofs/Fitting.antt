@@ -4,6 +4,7 @@ use Rattle.std.proofs.Common.{false, not, List, [], ◌∷◌, ◌++◌, append_
 use Rattle.std.proofs.lemmas.Bool.Decides.{nat_tests}
 use Rattle.std.proofs.lemmas.Int.{ints}
 use Rattle.std.specs.Prelude.{◌==◌, ◌&&◌, ◌||◌, nat_le, nat_lt, Option, Some, None}
+use Rattle.lay_pages.specs.Distances.{block_gap}
 use Rattle.lay_pages.specs.Filling.{AreGoodBlocks, CanFollow, IsLoose, down_after, first_place, height_number}
 use Rattle.lay_pages.specs.Filling.{with_kept, group_height, under, place_by, next_place, spot_at, spots_from}
 use Rattle.lay_pages.specs.Filling.{standing_from, tall_by, tall_from, AreWithin}
@@ -65,10 +66,10 @@ loose_room false page down others high e low = by_test (nat_le (down + others) h
 -- the group of the next block fits where that block is placed
 next_fits : (keep : Bool) (page down height others high : ℕ)
     → down + with_kept keep height others ≤ high → (keep ≡ false → others ≤ high)
-    → (place_by (keep || nat_le (down + height + 1500 + others) high) page (down + height + 1500)).down + others ≤ high
+    → (place_by (keep || nat_le (down + height + block_gap + others) high) page (down + height + block_gap)).down + others ≤ high
 next_fits true page down height others high fits new = omega arith
 next_fits false page down height others high fits new =
-    loose_room false page (down + height + 1500) others high refl (new refl)
+    loose_room false page (down + height + block_gap) others high refl (new refl)
 
 pub ready_next : (high : ℕ) (place : BlockSpot) (block next : Block) (more : List Block)
     → IsReady high place (block ∷ next ∷ more) → IsReady high (next_place high place block (next ∷ more)) (next ∷ more)

@@ -10,6 +10,7 @@ use Rattle.std.proofs.Math.Seq.{drop-nil}
 use Rattle.std.specs.Prelude.{◌==◌, ◌&&◌, nat_le, if◌then◌else◌, IfOk, IsSome, Some, None, Result, Ok, Err}
 use Rattle.lay_breaks.specs.Breaking.{FitsFrom, IsChosen, NoneLegal, RisesFrom, last_from}
 use Rattle.lay_breaks.proofs.Unique.{one_is_chosen}
+use Rattle.lay_pages.specs.Distances.{block_gap}
 use Rattle.lay_pages.specs.Even.{AreEven, AreHeights, AreSpots, StandByPages, ComesAfter, ComeAfter, filled, parted}
 use Rattle.lay_pages.specs.Even.{group_heights, group_numbers, groups_after, heights_from, page_cost, page_height}
 use Rattle.lay_pages.specs.Even.{page_of, pages_of, span_height, stacked}
@@ -30,11 +31,11 @@ if_some : (b : Bool) (v : ℕ) → IsSome (if b then Some v else None) → b ≡
 if_some true v e = refl
 if_some false v e = absurd cc
 
-low_enough : (s high : ℕ) → nat_le (s - 1500) high ≡ true → 0 + s ≤ high + 1500
+low_enough : (s high : ℕ) → nat_le (s - block_gap) high ≡ true → 0 + s ≤ high + block_gap
 low_enough s high e = grind (arith, nat_tests)
 
 span_low : (high : ℕ) (hs : List ℤ) (a n : ℕ)
-    → IsSome (page_cost high hs a (a + suc n)) → 0 + stacked (take (suc n) (drop a hs)) ≤ high + 1500
+    → IsSome (page_cost high hs a (a + suc n)) → 0 + stacked (take (suc n) (drop a hs)) ≤ high + block_gap
 span_low high hs a n some =
     let fit = if_some (nat_le (span_height hs a (a + suc n)) high) _ some in
     let count : a + suc n - a ≡ suc n = omega arith in
@@ -60,11 +61,11 @@ abbrev singles : ℕ → ℕ → List ℕ
 singles a zero = []
 singles a (suc n) = suc a ∷ singles (suc a) n
 
-single_low : (high : ℕ) (hs : List ℤ) → AreHeights high hs → stacked (take 1 hs) ≤ high + 1500
+single_low : (high : ℕ) (hs : List ℤ) → AreHeights high hs → stacked (take 1 hs) ≤ high + block_gap
 single_low high [] good = omega arith
 single_low high (h ∷ hs) good = by h (All-head (λ h. (pos 0 ≤ℤ h) × (h ≤ℤ pos high)) h hs good).1
   where
-    by : (h : ℤ) → h ≤ℤ pos high → height_number h + 1500 + 0 ≤ high + 1500
+    by : (h : ℤ) → h ≤ℤ pos high → height_number h + block_gap + 0 ≤ high + block_gap
     by (pos n) le = omega (arith, ints)
     by (negsuc n) le = omega arith
 
@@ -72,7 +73,7 @@ single_fits : (high : ℕ) (hs : List ℤ) (a : ℕ) → AreHeights high hs → 
 single_fits high hs a good =
     let low = single_low high (drop a hs) (All-drop (λ h. (pos 0 ≤ℤ h) × (h ≤ℤ pos high)) a hs good) in
     let count : suc a - a ≡ 1 = omega arith in
-    let low' = subst (λ k. stacked (take k (drop a hs)) ≤ high + 1500) (sym count) low in
+    let low' = subst (λ k. stacked (take k (drop a hs)) ≤ high + block_gap) (sym count) low in
     let fit : nat_le (span_height hs a (suc a)) high ≡ true = grind (arith, nat_tests, low') in
     rw fit refl
 
@@ -103,10 +104,10 @@ some_legal high n hs good none =
 -- a block that is tied to the next
 kept_fits : (high down group : ℕ) (ends : List ℕ) (block : Block) (more : List Block)
     → block.keep ≡ true → AreFitting high down group ends (group_heights (block ∷ more))
-    → AreFitting high (down + height_number block.height + 1500) group ends (group_heights more)
+    → AreFitting high (down + height_number block.height + block_gap) group ends (group_heights more)
 kept_fits high down group [] block more kept fits = absurd cc
 kept_fits high down group (e ∷ ends) block [] kept fits =
-    let fit : down + (height_number block.height + 1500 + stacked (take fits.0 [])) ≤ high + 1500 = fits.2 in
+    let fit : down + (height_number block.height + block_gap + stacked (take fits.0 [])) ≤ high + block_gap = fits.2 in
     (fits.0, fits.1, omega (arith, fit), subst (AreFitting high 0 e ends) (drop-nil fits.0) fits.3)
 kept_fits high down group (e ∷ ends) block (next ∷ more) kept fits = at block.keep kept fits
   where
@@ -114,12 +115,12 @@ kept_fits high down group (e ∷ ends) block (next ∷ more) kept fits = at bloc
         → AreFitting high down group (e ∷ ends)
         (pos (with_kept keep (height_number block.height) (group_height (next ∷ more)))
         ∷ heights_from keep (next ∷ more))
-        → AreFitting high (down + height_number block.height + 1500) group (e ∷ ends) (group_heights (next ∷ more))
+        → AreFitting high (down + height_number block.height + block_gap) group (e ∷ ends) (group_heights (next ∷ more))
     at true k f =
         let fit : down +
-        (height_number block.height + 1500 + group_height (next ∷ more) + 1500
+        (height_number block.height + block_gap + group_height (next ∷ more) + block_gap
         + stacked (take f.0 (heights_from next.keep more)))
-        ≤ high + 1500 = f.2 in
+        ≤ high + block_gap = f.2 in
         (f.0, f.1, omega (arith, fit), f.3)
     at false k f = absurd cc
 
@@ -137,11 +138,11 @@ loose_first block (next ∷ more) loose = at block.keep loose
     at false k = refl
 
 stay_fits : (high down group e n : ℕ) (ends : List ℕ) (h : ℕ) (hs : List ℤ)
-    → e ≡ group + suc n → (e == group + 1) ≡ false → down + stacked (take (suc n) (pos h ∷ hs)) ≤ high + 1500
-    → AreFitting high 0 e ends (drop (suc n) (pos h ∷ hs)) → AreFitting high (down + h + 1500) (group + 1) (e ∷ ends) hs
+    → e ≡ group + suc n → (e == group + 1) ≡ false → down + stacked (take (suc n) (pos h ∷ hs)) ≤ high + block_gap
+    → AreFitting high 0 e ends (drop (suc n) (pos h ∷ hs)) → AreFitting high (down + h + block_gap) (group + 1) (e ∷ ends) hs
 stay_fits high down group e zero ends h hs is stays fit more = absurd (grind (arith, nat_tests))
 stay_fits high down group e (suc n) ends h hs is stays fit more =
-    let fit' : down + (h + 1500 + stacked (take (suc n) hs)) ≤ high + 1500 = fit in
+    let fit' : down + (h + block_gap + stacked (take (suc n) hs)) ≤ high + block_gap = fit in
     (n, omega (arith, is), omega (arith, fit'), more)
 
 turn_fits : (high down group e n : ℕ) (ends : List ℕ) (h : ℤ) (hs : List ℤ)
@@ -237,7 +238,7 @@ groups_next group next block count = subst (λ n. n ≤ group + 1) (sym count) (
 
 -- ---- so each block is on its page
 first_high : (block : Block) (more : List Block) (n : ℕ)
-    → height_number block.height + 1500 ≤ stacked (take (suc n) (group_heights (block ∷ more)))
+    → height_number block.height + block_gap ≤ stacked (take (suc n) (group_heights (block ∷ more)))
 first_high block more n = let low = first_low block more in omega (arith, low)
 
 pub place_low : (high group : ℕ) (ends : List ℕ) (down : ℕ) (block : Block) (more : List Block)

@@ -7,6 +7,7 @@ use Rattle.std.specs.List.{filter}
 use Rattle.std.proofs.Common.{arith, ap}
 use Rattle.std.proofs.lemmas.Bool.Decides.{nat_tests}
 use Rattle.lay_breaks.specs.Breaking.{IsChosen}
+use Rattle.lay_pages.specs.Distances.{block_gap}
 use Rattle.lay_pages.specs.declared.filling.Block.{Block}
 use Rattle.lay_pages.specs.declared.filling.Spot.{Spot}
 use Rattle.lay_pages.specs.Filling.{BeginOn, group_height, height_number, spots_of, top_under}
@@ -20,13 +21,13 @@ heights_from false (block ∷ more) = pos (group_height (block ∷ more)) ∷ he
 abbrev pub group_heights : List Block → List ℤ
 group_heights blocks = heights_from false blocks
 
--- the height of groups with 1500 under each, and of groups with 1500 between two
+-- the height of groups with a gap under each, and of groups with a gap between two
 abbrev pub stacked : List ℤ → ℕ
 stacked [] = 0
-stacked (height ∷ more) = height_number height + 1500 + stacked more
+stacked (height ∷ more) = height_number height + block_gap + stacked more
 
 abbrev pub page_height : List ℤ → ℕ
-page_height heights = stacked heights - 1500
+page_height heights = stacked heights - block_gap
 
 abbrev pub span_height : List ℤ → ℕ → ℕ → ℕ
 span_height heights a b = page_height (take (b - a) (drop a heights))
@@ -63,7 +64,7 @@ page_of breaks group = length (filter (λ e. nat_le e group) breaks)
 abbrev pub pages_of : List Spot → List ℕ
 pages_of spots = map (λ (s : Spot). s.page) spots
 
--- The block after another is 1500 under it on the same page, or at the top of the next page; two blocks of a group
+-- The block after another is a gap under it on the same page, or at the top of the next page; two blocks of a group
 -- are never separated.
 pub data ComesAfter (high : ℕ) (block : Block) (spot : Spot) (next : Spot) : Type 0 where
   same_page : next.page ≡ spot.page → next.top ≡ top_under block spot → ComesAfter high block spot next

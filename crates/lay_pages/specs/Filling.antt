@@ -2,6 +2,7 @@
 -- of blocks is a group.
 use Rattle.std.specs.Prelude.{◌≡◌, ◌^◌, ◌≤◌, ⊤, ℕ, suc, ◌+◌, nat_le, nat_lt, ℤ, pos, negsuc, ◌-ℤ◌, ◌≤ℤ◌, ◌<ℤ◌, Bool}
 use Rattle.std.specs.Prelude.{true, false, not, ◌&&◌, ◌||◌, List, [], ◌∷◌, Option, Some, None}
+use Rattle.lay_pages.specs.Distances.{block_gap}
 use Rattle.lay_pages.specs.declared.filling.Block.{Block}
 use Rattle.lay_pages.specs.declared.filling.Spot.{Spot}
 use Rattle.lay_pages.specs.declared.filling.BlockSpot.{BlockSpot}
@@ -13,13 +14,13 @@ abbrev pub AreGoodBlocks : List Block → Type 0
 AreGoodBlocks [] = ⊤
 AreGoodBlocks (block ∷ more) = ((pos 0 ≤ℤ block.height) × (block.height ≤ℤ pos (2 ^ 40))) × AreGoodBlocks more
 
--- the height of the group that begins here: its blocks, with 1500 between two
+-- the height of the group that begins here: its blocks, with a gap between two
 abbrev pub height_number : ℤ → ℕ
 height_number (pos n) = n
 height_number (negsuc n) = 0
 
 abbrev pub with_kept : Bool → ℕ → ℕ → ℕ
-with_kept true height others = height + 1500 + others
+with_kept true height others = height + block_gap + others
 with_kept false height others = height
 
 abbrev pub group_height : List Block → ℕ
@@ -30,7 +31,7 @@ group_height (block ∷ next ∷ more) = with_kept block.keep (height_number blo
 -- A spot: the page, and how far below the top of the page. The next block is under this one if it is tied to it or
 -- its group fits there, else at the top of a new page.
 abbrev pub under : BlockSpot → Block → ℕ
-under place block = place.down + height_number block.height + 1500
+under place block = place.down + height_number block.height + block_gap
 
 abbrev pub place_by : Bool → ℕ → ℕ → BlockSpot
 place_by true page down = record { page = page; down = down }
@@ -116,11 +117,11 @@ AreWithin high (block ∷ blocks) (spot ∷ spots) =
     ((spot.top ≤ℤ pos high) × (pos 0 ≤ℤ (spot.top -ℤ block.height))) × AreWithin high blocks spots
 AreWithin high _ _ = ⊥
 
--- the top of what is under a block, 1500 below its bottom
+-- the top of what is under a block, a gap below its bottom
 abbrev pub top_under : Block → Spot → ℤ
-top_under block spot = (spot.top -ℤ block.height) -ℤ pos 1500
+top_under block spot = (spot.top -ℤ block.height) -ℤ pos block_gap
 
--- The block after another is 1500 under it on the same page, or at the top of the next page. The latter is the case
+-- The block after another is a gap under it on the same page, or at the top of the next page. The latter is the case
 -- only if a group begins with it that doesn't fit under the other.
 pub data Follows (high : ℕ) (block : Block) (spot : Spot) (more : List Block) (next : Spot) : Type 0 where
   same_page : next.page ≡ spot.page → next.top ≡ top_under block spot → Follows high block spot more next

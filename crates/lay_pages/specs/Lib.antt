@@ -1,3 +1,4 @@
+pub mod Distances
 pub mod Filling
 pub mod Even
 pub mod Parting

@@ -1,5 +1,6 @@
 -- How a list of breaks is walked to place blocks, for the code that does it: no public call speaks of this.
 use Rattle.std.specs.Prelude.{◌≡◌, ◌≤◌, ℕ, suc, ◌+◌, ◌==◌, ℤ, Bool, true, false, not, ◌&&◌, List, [], ◌∷◌, take, drop}
+use Rattle.lay_pages.specs.Distances.{block_gap}
 use Rattle.lay_pages.specs.declared.filling.Block.{Block}
 use Rattle.lay_pages.specs.declared.filling.Spot.{Spot}
 use Rattle.lay_pages.specs.declared.filling.BlockSpot.{BlockSpot}
@@ -40,5 +41,5 @@ AreFitting high down group [] heights = heights ≡ []
 AreFitting high down group (e ∷ ends) heights =
     (n : ℕ)
     × (e ≡ group + suc n)
-    × (down + stacked (take (suc n) heights) ≤ high + 1500)
+    × (down + stacked (take (suc n) heights) ≤ high + block_gap)
     × AreFitting high 0 e ends (drop (suc n) heights)

@@ -4,18 +4,19 @@ use Rattle.std.specs.Prelude.{ℕ, ◌+◌, ◌-◌, ◌*◌, ◌/◌, pos, min,
 use Rattle.mus_units.specs.declared.glyph.Size.{Size}
 use Rattle.mus_laid.specs.Boxes.{character_width}
 use Rattle.mus_laid.specs.Printed.{printed_within}
+use Rattle.lay_pages.specs.Distances.{big_row, small_row, big_base, small_base}
 use Rattle.lay_pages.specs.declared.titles.Alignment.{Alignment}
 use Rattle.lay_pages.specs.declared.titles.TitleRow.{TitleRow}
 use Rattle.lay_pages.specs.declared.titles.TitleBlock.{TitleBlock}
 
 -- the height of a row, and how far its base line is below its top
 abbrev pub row_height : Size → ℕ
-row_height Size.Big = 2400
-row_height Size.Small = 1400
+row_height Size.Big = big_row
+row_height Size.Small = small_row
 
 abbrev pub base_below : Size → ℕ
-base_below Size.Big = 1800
-base_below Size.Small = 1000
+base_below Size.Big = big_base
+base_below Size.Small = small_base
 
 -- titles are big, all else is small
 abbrev pub size_at : Alignment → Size

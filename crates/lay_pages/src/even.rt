@@ -6,6 +6,7 @@ ghost use Rattle.lay_pages.specs.Even.{groups_after, page_cost, page_height};
 ghost use Rattle.lay_pages.specs.Filling.{AreGoodBlocks, AreWithin, IsPageError, first_tall};
 ghost use Rattle.lay_pages.specs.Parting.{AreFitting, ends_after, even_spot_after, parted_spots, turns};
 
+use crate::distances::BLOCK_GAP;
 use crate::filling::{
     Block, BlockSpot, PageError, Spot, fill, first_tall, group_height, height_number, spot_at,
 };
@@ -27,7 +28,7 @@ pub struct PageCosts {
     ghost within: { AreHeights high heights },
 }
 
-/// Returns the height of groups on a page, with 1500 u between two.
+/// Returns the height of groups on a page, with a gap between two.
 fn page_height(heights: &[i64]) -> u64
     requires few { length heights.now < 2 ^ 32 }
     requires good { All (λ h. h ≤ℤ pos (2 ^ 26)) heights.now }
@@ -35,9 +36,9 @@ fn page_height(heights: &[i64]) -> u64
 {
     let mut stacked: u64 = 0;
     for height in heights {
-        stacked += height_number(*height) + 1500;
+        stacked += height_number(*height) + BLOCK_GAP;
     }
-    stacked.saturating_sub(1500)
+    stacked.saturating_sub(BLOCK_GAP)
 }
 
 impl Costs for PageCosts {
@@ -141,7 +142,7 @@ fn even_spot_after(turned: bool, place: BlockSpot, block: Block) -> BlockSpot
     }
     BlockSpot {
         page: place.page,
-        down: place.down + height_number(block.height) + 1500,
+        down: place.down + height_number(block.height) + BLOCK_GAP,
     }
 }
 

@@ -6,6 +6,7 @@ ghost use Rattle.lay_pages.specs.Filling.{spots_from, spots_of, standing_from, f
 ghost use Rattle.lay_pages.specs.Filling.{IsPageError};
 ghost use Rattle.lay_pages.specs.declared.filling.PageError.TheVariants as errors;
 
+use crate::distances::BLOCK_GAP;
 use mus_units::{Memory, Row};
 use std::alloc::Global;
 
@@ -41,7 +42,7 @@ impl From<Memory> for PageError {
     }
 }
 
-/// Returns the spots of blocks on pages that are `high` u high: under one another with 1500 u
+/// Returns the spots of blocks on pages that are `high` u high: under one another with a gap
 /// between two. A block that is tied to the next makes a group with it. A group that doesn't fit
 /// under the blocks before it goes to a new page.
 pub fn fill(alloc: Global, blocks: &[Block], high: u32) -> Result<Row<Spot>, PageError>
@@ -106,7 +107,7 @@ pub(crate) fn group_height(blocks: &[Block]) -> u128
         if !block.keep || more.is_empty() {
             return sum + height;
         }
-        sum = sum + height + 1500;
+        sum = sum + height + u128::from(BLOCK_GAP);
         rest = more;
     }
     sum
@@ -160,7 +161,7 @@ fn next_place(high: u32, place: BlockSpot, block: Block, more: &[Block]) -> Bloc
     requires down { place.down ≤ 2 ^ 32 }
     ensures { result ≡ next_place high place block more.now }
 {
-    let under = place.down + height_number(block.height) + 1500;
+    let under = place.down + height_number(block.height) + BLOCK_GAP;
     if block.keep || fits_at(high, under, more) {
         return BlockSpot {
             page: place.page,

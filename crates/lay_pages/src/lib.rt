@@ -2,6 +2,7 @@
 //! and fills blocks into pages.
 #![tactic(auto)]
 
+pub mod distances;
 pub mod even;
 pub mod filling;
 pub mod stacking;

@@ -1,9 +1,11 @@
 ghost use Rattle.std.specs.Prelude.{◌≡◌, ◌≤◌, ◌+◌, ◌*◌, ◌-◌, ◌/◌, ◌^◌, min, length, IfOk, OnOk, pos};
 ghost use Rattle.std.specs.Option.{option_copied};
 ghost use Rattle.mus_laid.specs.Boxes.{character_width};
+ghost use Rattle.lay_pages.specs.Distances.{big_row, big_base};
 ghost use Rattle.lay_pages.specs.Titles.{row_height, base_below, size_at, most_within, row_text, row_x, title_row_at};
 ghost use Rattle.lay_pages.specs.Titles.{with_row, with_text, with_texts, tempo_texts, no_rows, title_block_of};
 
+use crate::distances::{BIG_BASE, BIG_ROW, SMALL_BASE, SMALL_ROW};
 use mus_laid::printed_within;
 use mus_units::{Memory, Row, Size, Text};
 use std::alloc::Global;
@@ -70,7 +72,7 @@ fn put_texts(
     requires few { length texts.now ≤ 2 ^ 32 }
     requires low { block.old.height ≤ 2 ^ 47 }
     ensures value { OnOk result (block.new ≡ with_texts width place block.old texts.now) }
-    ensures within { OnOk result (block.new.height ≤ block.old.height + 2400 * length texts.now) }
+    ensures within { OnOk result (block.new.height ≤ block.old.height + big_row * length texts.now) }
 {
     for text in texts {
         put_text(alloc, width, place, text.as_slice(), block)?;
@@ -88,7 +90,7 @@ fn put_text(
 ) -> Result<(), Memory>
     requires { block.old.height ≤ 2 ^ 50 }
     ensures value { OnOk result (block.new ≡ with_text width place block.old text.now) }
-    ensures within { OnOk result (block.new.height ≤ block.old.height + 2400) }
+    ensures within { OnOk result (block.new.height ≤ block.old.height + big_row) }
 {
     let text = row_text(alloc, width, place, text)?;
     put_row(width, place, text, block)
@@ -98,7 +100,7 @@ fn put_row(width: u32, place: Alignment, text: Text, block: &mut TitleBlock) -> 
     requires low { block.old.height ≤ 2 ^ 50 }
     requires short { length text ≤ most_within width (size_at place) }
     ensures value { OnOk result (block.new ≡ with_row width block.old place text) }
-    ensures within { OnOk result (block.new.height ≤ block.old.height + 2400) }
+    ensures within { OnOk result (block.new.height ≤ block.old.height + big_row) }
 {
     if text.len() == 0 {
         return Ok(());
@@ -136,21 +138,21 @@ fn size_at(place: Alignment) -> Size
 
 fn row_height(size: Size) -> u64
     ensures value { result ≡ row_height size }
-    ensures most { result ≤ 2400 }
+    ensures most { result ≤ big_row }
 {
     match size {
-        Size::Big => 2400,
-        Size::Small => 1400,
+        Size::Big => BIG_ROW,
+        Size::Small => SMALL_ROW,
     }
 }
 
 fn base_below(size: Size) -> u64
     ensures value { result ≡ base_below size }
-    ensures most { result ≤ 1800 }
+    ensures most { result ≤ big_base }
 {
     match size {
-        Size::Big => 1800,
-        Size::Small => 1000,
+        Size::Big => BIG_BASE,
+        Size::Small => SMALL_BASE,
     }
 }
 
