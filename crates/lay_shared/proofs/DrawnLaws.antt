@@ -11,7 +11,7 @@ use Rattle.std.specs.List.{AllByRecursion}
 use Rattle.std.specs.Option.{option_to_list}
 use Rattle.mus_score.specs.declared.score.Score.{Score}
 use Rattle.mus_score.specs.declared.score.Voice.{Voice}
-use Rattle.mus_score.specs.Seats.{is_lower}
+use Rattle.mus_score.specs.Seats.{is_lower, wide_gap}
 use Rattle.mus_score.specs.Walks.{Distinct}
 use Rattle.mus_score.specs.GoodScore.{IsGoodScore, IsGoodVoice, IsLed, voice_weight}
 use Rattle.mus_score.proofs.Scores.{distinct_pairs}
@@ -37,7 +37,7 @@ places (staff ∷ staves) =
     ∙ ap (λ s. s ++ map (λ (at : SeatedVoice). at.place) (sits_of staves)) (staff_places staff.leads staff.voices)
     ∙ ap (λ s. staff.voices ++ s) (places staves)
 
-gap_near : (leads : Bool) → staff_gap leads ≤ 1000
+gap_near : (leads : Bool) → staff_gap leads ≤ wide_gap
 gap_near true = omega arith
 gap_near false = omega arith
 
