@@ -139,7 +139,8 @@ loose_first block (next ∷ more) loose = at block.keep loose
 
 stay_fits : (high down group e n : ℕ) (ends : List ℕ) (h : ℕ) (hs : List ℤ)
     → e ≡ group + suc n → (e == group + 1) ≡ false → down + stacked (take (suc n) (pos h ∷ hs)) ≤ high + block_gap
-    → AreFitting high 0 e ends (drop (suc n) (pos h ∷ hs)) → AreFitting high (down + h + block_gap) (group + 1) (e ∷ ends) hs
+    → AreFitting high 0 e ends (drop (suc n) (pos h ∷ hs))
+    → AreFitting high (down + h + block_gap) (group + 1) (e ∷ ends) hs
 stay_fits high down group e zero ends h hs is stays fit more = absurd (grind (arith, nat_tests))
 stay_fits high down group e (suc n) ends h hs is stays fit more =
     let fit' : down + (h + block_gap + stacked (take (suc n) hs)) ≤ high + block_gap = fit in
