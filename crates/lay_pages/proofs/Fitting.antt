@@ -66,8 +66,8 @@ loose_room false page down others high e low = by_test (nat_le (down + others) h
 -- the group of the next block fits where that block is placed
 next_fits : (keep : Bool) (page down height others high : ℕ)
     → down + with_kept keep height others ≤ high → (keep ≡ false → others ≤ high)
-    → (place_by (keep || nat_le (down + height + block_gap + others) high) page (down + height + block_gap)).down + others
-    ≤ high
+    → (place_by (keep || nat_le (down + height + block_gap + others) high) page (down + height + block_gap)).down
+    + others ≤ high
 next_fits true page down height others high fits new = omega arith
 next_fits false page down height others high fits new =
     loose_room false page (down + height + block_gap) others high refl (new refl)
