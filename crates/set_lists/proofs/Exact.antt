@@ -13,13 +13,13 @@ use Rattle.mus_score.specs.declared.score.Score.{Score}
 use Rattle.lay_breaks.specs.declared.costs.Span.{Span}
 use Rattle.lay_tune.specs.Breakings.{IsLegalIn}
 use Rattle.lay_tune.specs.Layout.{IsNoWay}
-use Rattle.lay_tune.proofs.Breakings.{legal_listed}
 use Rattle.set_tune.specs.Terms.{Terms}
 use Rattle.set_tune.specs.declared.tune.SetTune.{SetTune}
 use Rattle.set_tune.specs.Setting.{HasScore, IsFaultOfTune, IsLaidTune, layout_fault, no_way, of_header, of_move}
 use Rattle.set_tune.specs.Setting.{of_score, of_share, too_tall}
-use Rattle.set_book.specs.{declared.outcome.Outcome.Outcome, Once.HaveOneOutcome, Outcomes.{AreOutcomes, IsResult}}
-use Rattle.set_lists.specs.Laws.{HasItsBreakings, ListsTheBook, NoWayIsExact}
+use Rattle.set_book.specs.{declared.outcome.Outcome.Outcome, Once.HaveOneOutcome}
+use Rattle.set_book.specs.Outcomes.{AreOutcomes, IsOutcome, IsResult}
+use Rattle.set_lists.specs.Laws.{HasItsBreakings, HasNoWayPast, ListsTheBook, NoWayIsExact, ReportsNoWay}
 use Rattle.set_lists.proofs.Legal.{breakings_of_listing}
 use Rattle.set_lists.proofs.Numbers.{book_rises}
 use Rattle.set_lists.proofs.Reported.{lists_the_set}
@@ -47,11 +47,6 @@ lists_the_book bytes terms outcomes short set = record {
 }
 
 -- ---- no way
--- what is reported to have no way has no legal breaking
-none_legal : (s : Score) (width reached : ℕ) (spans : List Span)
-    → IsNoWay s width reached spans → (breaks : List ℕ) → IsLegalIn s width breaks → ⊥
-none_legal s width reached spans way breaks legal = way.none breaks (legal_listed s width spans way.exact breaks legal)
-
 module _ (one : HaveOneOutcome) (tune : TuneText) (terms : Terms) (header : Header) (score : Score)
     (has : HasScore tune terms.defaults terms.manner header score) where
   -- a score that is laid out has a legal breaking
@@ -60,23 +55,27 @@ module _ (one : HaveOneOutcome) (tune : TuneText) (terms : Terms) (header : Head
       subst (λ s. IsLegalIn s (body_width terms.paper) t.breaking.breaks)
       (one.score tune terms.defaults terms.manner t.header header t.score score laid.score has) laid.layout.least.legal
 
+  -- what is reported to have no way is reported so of this score
   reported : (f : Fault) (reached : ℕ)
-      → f.kind ≡ FaultKind.NoWay reached → IsFaultOfTune tune terms f → (breaks : List ℕ)
-      → IsLegalIn score (body_width terms.paper) breaks
-      → ⊥
-  reported _ reached e (of_header f fault) breaks legal =
-      one.scored tune terms.defaults terms.manner header score f has (inl (inl fault))
-  reported _ reached e (of_score h f read fault) breaks legal =
-      one.scored tune terms.defaults terms.manner header score f has (inl (inr (h, read, fault)))
-  reported _ reached e (of_share f c) breaks legal =
-      one.scored tune terms.defaults terms.manner header score f has (inr (inl c))
-  reported _ reached e (of_move c) breaks legal = let clash : FaultKind.BadMove ≡ FaultKind.NoWay reached = e in cc
-  reported _ reached e (no_way h s i spans scored way) breaks legal =
-      none_legal s (body_width terms.paper) i spans way breaks
-      (subst (λ x. IsLegalIn x (body_width terms.paper) breaks)
-      (one.score tune terms.defaults terms.manner header h score s has scored) legal)
-  reported _ reached e (too_tall t block laid tall) breaks legal =
-      let clash : FaultKind.TooTall block ≡ FaultKind.NoWay reached = e in cc
+      → f.kind ≡ FaultKind.NoWay reached → IsFaultOfTune tune terms f
+      → (spans : List Span) × IsNoWay score (body_width terms.paper) reached spans
+  reported _ reached e (of_header f fault) =
+      absurd (one.scored tune terms.defaults terms.manner header score f has (inl (inl fault)))
+  reported _ reached e (of_score h f read fault) =
+      absurd (one.scored tune terms.defaults terms.manner header score f has (inl (inr (h, read, fault))))
+  reported _ reached e (of_share f c) =
+      absurd (one.scored tune terms.defaults terms.manner header score f has (inr (inl c)))
+  reported _ reached e (of_move c) = let clash : FaultKind.BadMove ≡ FaultKind.NoWay reached = e in absurd cc
+  reported _ reached e (no_way h s i spans scored way) =
+      let same : FaultKind.NoWay i ≡ FaultKind.NoWay reached = e in
+      let bar : i ≡ reached = cc in
+      let here = one.score tune terms.defaults terms.manner h header s score scored has in (
+        spans,
+        subst (λ n. IsNoWay score (body_width terms.paper) n spans) bar
+            (subst (λ x. IsNoWay x (body_width terms.paper) i spans) here way),
+      )
+  reported _ reached e (too_tall t block laid tall) =
+      let clash : FaultKind.TooTall block ≡ FaultKind.NoWay reached = e in absurd cc
 
   came_by : (f : Fault) → IsFaultOfTune tune terms f
       → ((breaks : List ℕ) → IsLegalIn score (body_width terms.paper) breaks → ⊥)
@@ -99,9 +98,24 @@ module _ (one : HaveOneOutcome) (tune : TuneText) (terms : Terms) (header : Head
   came (Ok t) is none = absurd (none t.breaking.breaks (laid_legal t is.laid))
   came (Err f) is none = let by = came_by f is none in (by.0, ap Err by.1)
 
+  module _ (outcome : Outcome) (is : IsOutcome terms tune outcome) where
+    way_of : (reached : ℕ)
+        → HasNoWayPast tune outcome reached
+        → (spans : List Span) × IsNoWay score (body_width terms.paper) reached spans
+    way_of reached at =
+        reported (layout_fault tune (FaultKind.NoWay reached)) reached refl
+        (subst (λ r. IsResult tune terms r) at is.result)
+
+    reports : ReportsNoWay tune outcome score (body_width terms.paper)
+    reports = record {
+      exact = ((λ way. (way_of way.0 way.1).1.none_of_score), came outcome.result is.result);
+      furthest = λ reached at. (way_of reached at).1.furthest_of_score;
+    }
+
 pub no_way_is_exact : HaveOneOutcome → NoWayIsExact
-no_way_is_exact one tune terms header score outcome has is = (
-  (λ way. reported one tune terms header score has (layout_fault tune (FaultKind.NoWay way.0)) way.0 refl
-      (subst (λ r. IsResult tune terms r) way.1 is.result)),
-  came one tune terms header score has outcome.result is.result,
+no_way_is_exact one terms [] [] set = tt
+no_way_is_exact one terms (t ∷ ts) (o ∷ os) set = (
+  (λ header score has. reports one t terms header score has o set.0),
+  no_way_is_exact one terms ts os set.1,
 )
+no_way_is_exact one terms ts os set = absurd set

@@ -1,5 +1,6 @@
 -- The laws of the listing of a book.
 use Rattle.std.specs.Prelude.{◌≡◌, ℕ, ◌<◌, ◌≤◌, ◌^◌, ◌↔◌, ⊤, All, List, [], ◌∷◌, length, Result, Ok, Err}
+use Rattle.std.specs.List.{AllZip}
 use Rattle.abc_lines.specs.declared.book.TuneText.{TuneText}
 use Rattle.abc_lines.specs.declared.fault.Fault.{Fault}
 use Rattle.abc_lines.specs.declared.fault.FaultKind.{FaultKind}
@@ -11,14 +12,14 @@ use Rattle.mus_score.specs.declared.score.Score.{Score}
 use Rattle.lay_breaks.specs.declared.costs.Span.{Span}
 use Rattle.lay_breaks.specs.Breaking.{IsLegal}
 use Rattle.lay_breaks.specs.Spans.{AreSpans, listed}
-use Rattle.lay_tune.specs.Breakings.{IsLegalIn}
+use Rattle.lay_tune.specs.Breakings.{IsLegalIn, IsReachedIn}
 use Rattle.lay_tune.specs.Spans.{AreSpansOf}
 use Rattle.lay_cert.specs.Listing.{IsListing, none_forced}
 use Rattle.set_tune.specs.Terms.{Terms}
 use Rattle.set_tune.specs.declared.tune.SetTune.{SetTune}
 use Rattle.set_tune.specs.Setting.{HasScore, layout_fault}
 use Rattle.set_book.specs.declared.outcome.Outcome.{Outcome}
-use Rattle.set_book.specs.Outcomes.{AreOutcomes, IsOutcome}
+use Rattle.set_book.specs.Outcomes.{AreOutcomes}
 use Rattle.set_lists.specs.Listing.{AreListable, entries_of, listing_text}
 
 -- the numbers of the tunes rise, the first past k, and have 32 bits
@@ -68,14 +69,29 @@ ListsTheBook =
     → length bytes ≤ 2 ^ 30 → AreOutcomes terms (book_of bytes).tunes outcomes
     → ListsTheScores terms.paper (listing_text outcomes) outcomes
 
--- the tune is reported to have no way: legal breakings of its first measures go up to some bar, and none to the last
-abbrev pub HasNoWay : TuneText → Outcome → Type 0
-HasNoWay tune outcome = (reached : ℕ) × (outcome.result ≡ Err (layout_fault tune (FaultKind.NoWay reached)))
+-- the tune is reported to have no way past this bar
+abbrev pub HasNoWayPast : TuneText → Outcome → ℕ → Type 0
+HasNoWayPast tune outcome reached = outcome.result ≡ Err (layout_fault tune (FaultKind.NoWay reached))
 
--- A tune that has a score is reported to have no way exactly when its score has no legal breaking on the width of the
--- body.
+-- The tune of the score is reported to have no way exactly when the score has no legal breaking on the width; the bar
+-- that is reported is the greatest at which a legal prefix of the score ends.
+pub record ReportsNoWay (tune : TuneText) (outcome : Outcome) (score : Score) (width : ℕ) : Type 0 where
+  pub exact : ((reached : ℕ) × HasNoWayPast tune outcome reached)
+      ↔ ((breaks : List ℕ) → IsLegalIn score width breaks → ⊥)
+  pub furthest : (reached : ℕ) → HasNoWayPast tune outcome reached → IsReachedIn score width reached
+
+-- the same on the width of the body, if the tune has a score
+abbrev pub ReportsIfScored : Terms → TuneText → Outcome → Type 0
+ReportsIfScored terms tune outcome =
+    (header : Header) (score : Score)
+    → HasScore tune terms.defaults terms.manner header score
+    → ReportsNoWay tune outcome score (body_width terms.paper)
+
+abbrev pub ReportNoWays : Terms → List TuneText → List Outcome → Type 0
+ReportNoWays terms tunes outcomes = AllZip (ReportsIfScored terms) tunes outcomes
+
+-- the outcomes of some tunes report so
 abbrev pub NoWayIsExact : Type 0
 NoWayIsExact =
-    (tune : TuneText) (terms : Terms) (header : Header) (score : Score) (outcome : Outcome)
-    → HasScore tune terms.defaults terms.manner header score → IsOutcome terms tune outcome
-    → HasNoWay tune outcome ↔ ((breaks : List ℕ) → IsLegalIn score (body_width terms.paper) breaks → ⊥)
+    (terms : Terms) (tunes : List TuneText) (outcomes : List Outcome)
+    → AreOutcomes terms tunes outcomes → ReportNoWays terms tunes outcomes

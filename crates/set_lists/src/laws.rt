@@ -28,7 +28,8 @@ pub fn lists_the_book()
     ensures { ListsTheBook }
 {}
 
-/// The law that a tune with a score is reported to have no way exactly when its score has no legal breaking.
+/// The law that a tune with a score is reported to have no way exactly when its score has no legal breaking, and that
+/// the bar reported is the greatest at which a legal prefix of the score ends.
 pub fn no_way_is_exact()
     ensures { NoWayIsExact }
 {
