@@ -51,7 +51,7 @@ quiet_called c d page a b = same_called c d page (a.reported ∙ sym b.reported)
 -- ---- the commands that set a book
 one_set : HaveOneOutcome
     → (manner : Manner) (text : List ℕ) (os ps : List Outcome) → AreSet manner text os → AreSet manner text ps → os ≡ ps
-one_set one manner text os ps a b = one.outcomes (terms_in manner text) (book_of text).tunes os ps a b
+one_set one manner text os ps a b = one.outcomes (terms_in manner text) (book_of text).tunes os ps a.each b.each
 
 -- one outcome and one plan determine one answer
 by_plan : {A : Type 0} (make : PagePlan → List Outcome → A) (even : Bool) (paper : Paper) (os ps : List Outcome)

@@ -18,7 +18,6 @@ use eng_jobs::Jobs;
 use mus_units::Text;
 use ps_machine::one_answer;
 use set_book::{Gate, one_outcome};
-use set_lists::no_way_is_exact;
 use set_tune::How;
 use std::alloc::Global;
 use std::thread::Threads;
@@ -184,6 +183,5 @@ pub fn run<R: Threads + Sync, S: Source, O: Sink, E: Sink, G: Gate + Sync>(
     asks_one();
     calls_one();
     never_both();
-    no_way_is_exact();
     run_words(rt, alloc, words, input, output, errors, gate)
 }

@@ -1,4 +1,4 @@
-use Rattle.abcps.specs.Books.{AreSet, terms_in, systems_called}
+use Rattle.abcps.specs.Books.{AreOutcomesIn, terms_in, systems_called}
 use Rattle.abcps.proofs.Answered.{answer_by}
 use Rattle.abcps.proofs.BookCalls.{calls_systems}
 use Rattle.set_tune.specs.Terms.{manner_of}
@@ -20,6 +20,6 @@ returns g c =
     (systems_called c.args.table c.as_slice.result.now)
     (calls_systems c.lists_the_book.ensures (manner_of c.args.how) c.args.table c.args.text c.as_slice.result.now
     (let few = c.requires.within in omega (arith, few))
-    (subst (λ outcomes. AreSet (manner_of c.args.how) c.args.text outcomes) (sym c.as_slice.ensures)
+    (subst (λ outcomes. AreOutcomesIn (manner_of c.args.how) c.args.text outcomes) (sym c.as_slice.ensures)
     c.in-Ok.ensures.set))
     _ _ c.write_systems.result c.write_systems.ensures
