@@ -1,5 +1,5 @@
 -- The stages of a tune's setting combined: what each refuses is the one fault of the tune.
-use Rattle.std.proofs.Common.{◌≡◌, sym, subst, inl, inr, ℕ, None, Some, Result, Ok, Err, IfErr}
+use Rattle.std.proofs.Common.{◌≡◌, sym, subst, inl, inr, ℕ, None, Some, Result, Ok, Err, IfErr, IfOk}
 use Rattle.abc_lines.specs.declared.book.TuneText.{TuneText}
 use Rattle.abc_lines.specs.declared.fault.TuneError.{TuneError}
 use Rattle.abc_fields.specs.declared.header.Header.{Header}
@@ -12,8 +12,8 @@ use Rattle.set_tune.specs.Terms.{Terms}
 use Rattle.set_tune.specs.declared.tune.SetTune.{SetTune}
 use Rattle.set_tune.specs.Blocks.{blocks_of}
 use Rattle.set_tune.specs.Setting.{HasScore, IsFaultOfTune, IsLaid, IsLaidOut, IsLaidTune, IsLayoutRefusal}
-use Rattle.set_tune.specs.Setting.{IsMovedRefusal, IsRefusal, IsTallRefusal, of_header, of_score, of_share, of_move}
-use Rattle.set_tune.specs.Setting.{no_way, too_tall}
+use Rattle.set_tune.specs.Setting.{IsMovedRefusal, IsRefusal, IsSetTune, IsTallRefusal, of_header, of_score, of_share}
+use Rattle.set_tune.specs.Setting.{no_way, of_move, too_tall}
 use Rattle.set_tune.proofs.Apart.{staves_apart}
 
 pub none_some : {X : Type 0} (x : X) → None ≡ Some x → ⊥
@@ -67,3 +67,14 @@ pub tall_refused : (tune : TuneText) (terms : Terms) (high : ℕ) (t : SetTune) 
     → IfErr r (IsRefusal tune terms)
 tall_refused tune terms high t (Ok set) laid is h = tt
 tall_refused tune terms high t (Err e) laid is h = tall_error tune terms high t e laid is h
+
+-- no group is too high
+pub tune_set : (tune : TuneText) (terms : Terms) (high : ℕ) (t : SetTune) (r : Result SetTune TuneError)
+    → IsLaidTune tune terms t → high ≡ body_height terms.paper → IfOk r (λ set. set ≡ t)
+    → IfOk r (λ set. first_tall high (blocks_of set.title set.heights) ≡ None)
+    → IfOk r (IsSetTune tune terms)
+tune_set tune terms high t (Ok set) laid is same fits = record {
+  laid = subst (IsLaidTune tune terms) (sym same) laid;
+  fits = subst (λ n. first_tall n (blocks_of set.title set.heights) ≡ None) is fits;
+}
+tune_set tune terms high t (Err e) laid is same fits = tt
