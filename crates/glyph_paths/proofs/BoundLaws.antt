@@ -7,7 +7,7 @@ use Rattle.std.proofs.lemmas.List.Elements.{All-nil}
 use Rattle.std.proofs.lemmas.Bool.Decides.{nat_tests}
 use Rattle.std.specs.List.{Contains, list_all}
 use Rattle.mus_units.specs.declared.glyph.Glyph.{Glyph}
-use Rattle.glyph_paths.specs.Outlines.{outline_of}
+use Rattle.glyph_paths.specs.Rows.{outline_of}
 use Rattle.glyph_paths.specs.Bounds.{abscissa, ordinate, least, greatest, IsClose, AreClose, coordinate, IsLeast}
 use Rattle.glyph_paths.specs.Bounds.{IsGreatest, AreBounds, further, furthest, first_or_zero, coordinates, extent}
 use Rattle.glyph_paths.specs.Bounds.{bounds_in}

@@ -6,7 +6,7 @@ use Rattle.std.specs.List.{flat_map, fold}
 use Rattle.mus_units.specs.declared.glyph.Glyph.{Glyph}
 use Rattle.glyph_paths.specs.declared.paths.PathOp.{PathOp}
 use Rattle.glyph_paths.specs.declared.bounds.Bounds.{Bounds}
-use Rattle.glyph_paths.specs.Outlines.{outline_of}
+use Rattle.glyph_paths.specs.Rows.{outline_of}
 use Rattle.glyph_paths.specs.declared.paths.PathOp.TheVariants as ops
 
 -- one of the two coordinates of a point
@@ -75,9 +75,6 @@ first_or_zero (z ∷ zs) = z
 
 unfoldable pub extent : End → Axis → List PathOp → ℤ
 extent end axis steps = furthest end (first_or_zero (coordinates axis steps)) (coordinates axis steps)
-
-abbrev pub within : ℤ → ℤ → ℤ → ℤ → Bounds
-within left low right high = record { left = left; low = low; right = right; high = high }
 
 unfoldable pub bounds_in : Glyph → Bounds
 bounds_in glyph = record {

@@ -1,3 +1,4 @@
+pub mod Rows
 pub mod Outlines
 pub mod Names
 pub mod Bounds

@@ -6,8 +6,7 @@ use Rattle.std.specs.List.{flat_map}
 use Rattle.mus_units.specs.declared.glyph.Glyph.{Glyph}
 use Rattle.glyph_paths.specs.Characters.{space}
 use Rattle.glyph_paths.specs.declared.paths.PathOp.{PathOp}
-use Rattle.glyph_paths.specs.Names.{glyph_name}
-use Rattle.glyph_paths.specs.Outlines.{outline_of}
+use Rattle.glyph_paths.specs.Rows.{glyph_name, outline_of}
 use Rattle.glyph_paths.specs.declared.paths.PathOp.TheVariants as ops
 
 -- numbers in decimal, with a space after each

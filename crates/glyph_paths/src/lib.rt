@@ -3,13 +3,13 @@
 #![tactic(auto)]
 
 pub mod bounds;
-pub mod names;
 pub mod numbers;
 pub mod paths;
 pub mod procedures;
+pub mod rows;
 
 pub use bounds::{Bounds, bounds_of};
 pub use mus_units::Glyph;
-pub use names::{all_glyphs, name_of};
-pub use paths::{PathOp, outline};
+pub use paths::PathOp;
 pub use procedures::procedure;
+pub use rows::{all_glyphs, name_of, outline};

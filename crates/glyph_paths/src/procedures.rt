@@ -1,9 +1,9 @@
 ghost use Rattle.std.specs.Prelude.{◌≡◌, ◌++◌, ◌∷◌, [], codes, OnOk, IfOk};
 ghost use Rattle.glyph_paths.specs.Procedure.{numbers, step_text, path_text, procedure_text};
 
-use crate::names::name_of;
 use crate::numbers::put_numbers;
-use crate::paths::{PathOp, outline};
+use crate::paths::PathOp;
+use crate::rows::{name_of, outline};
 use mus_units::{Glyph, Memory, Text};
 use std::alloc::Global;
 

@@ -1,5 +1,5 @@
 use Rattle.std.proofs.Common.{rules, subst, sym}
-use Rattle.glyph_paths.specs.Outlines.{outline_of}
+use Rattle.glyph_paths.specs.Rows.{outline_of}
 use Rattle.glyph_paths.specs.Bounds.{AreBounds, AreClose}
 use Rattle.glyph_paths.proofs.BoundLaws.{bounds_are, bounds_are_close}
 use Rattle.glyph_paths.proofs.bounds.bounds_of.Goals as goal
