@@ -9,7 +9,7 @@ use Rattle.mus_score.specs.declared.score.Score.{Score}
 use Rattle.mus_score.specs.declared.score.Seat.{Seat}
 use Rattle.set_tune.specs.declared.tune.SetTune.{SetTune}
 use Rattle.set_book.specs.declared.outcome.Outcome.{Outcome}
-use Rattle.set_pages.specs.Read.{ShowsBook}
+use Rattle.set_pages.specs.Read.{ReadBlock, ShowsBook}
 use Rattle.set_pages.specs.Sheet.{IsSetUnder}
 use Rattle.ps_text.specs.declared.sheet.Sheet.{Sheet}
 use Rattle.ps_heard.specs.declared.tunes.SheetTune.{SheetTune}
@@ -60,5 +60,5 @@ pub record SoundsBook (outcomes : List Outcome) (sheet : Sheet) : Type 0 where
 -- each, as their scores do
 abbrev pub BooksAreHeard : Type 0
 BooksAreHeard =
-    (paper : Paper) (outcomes : List Outcome) (sheet : Sheet)
-    → All (IsSetUnder paper) outcomes → ShowsBook paper outcomes sheet → SoundsBook outcomes sheet
+    (paper : Paper) (outcomes : List Outcome) (sheet : Sheet) (parts : List (List ReadBlock))
+    → All (IsSetUnder paper) outcomes → ShowsBook paper outcomes sheet parts → SoundsBook outcomes sheet

@@ -14,7 +14,7 @@ use Rattle.set_pages.specs.declared.builder.PageBuilder.{PageBuilder}
 use Rattle.set_pages.specs.declared.builder.PlacedOutcome.{PlacedOutcome}
 use Rattle.set_pages.specs.Drawings.{all_blocks, all_drawings, outcome_drawings}
 use Rattle.set_pages.specs.Flow.{begun_after, drawings_text, ending, placed_text, placed_texts}
-use Rattle.set_pages.specs.Read.{ShowsBook}
+use Rattle.set_pages.specs.Read.{ReadBlock, ShowsBook, all_read, spots_of_blocks}
 use Rattle.set_pages.specs.Ready.{AreRising, IsDrawnInRange, IsReady, IsWhole}
 use Rattle.ps_text.specs.Document.{numbered, document_page}
 use Rattle.ps_text.specs.Range.{IsSheet}
@@ -116,10 +116,12 @@ pub record IsSheetOf (plan : PagePlan) (paper : Paper) (outcomes : List Outcome)
   pub good : IsSheet (sheet_of plan paper outcomes)
   pub has : HasText plan paper outcomes begun
 
--- each block is on its page as the plan says, and a reader finds there what the scores call for
+-- each block is on its page as the plan says, and a reader finds it there with what the scores call for
 pub record StandShown (plan : PagePlan) (paper : Paper) (outcomes : List Outcome) : Type 0 where
-  pub stand : AreStanding plan paper outcomes
-  pub shown : ShowsBook paper outcomes (sheet_of plan paper outcomes)
+  pub stand : AreStanding plan paper outcomes (all_spots plan paper outcomes)
+  pub parts : List (List ReadBlock)
+  pub shown : ShowsBook paper outcomes (sheet_of plan paper outcomes) parts
+  pub blocks : AreStanding plan paper outcomes (spots_of_blocks (all_read parts))
 
 -- blocks of outcomes that were set on a paper
 pub record AreBlocksOn (paper : Paper) (blocks : List Block) : Type 0 where

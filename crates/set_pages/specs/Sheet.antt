@@ -66,17 +66,17 @@ sheet_of plan paper outcomes = record {
   pages = pages_of (body_width paper) (all_drawings outcomes) (all_spots plan paper outcomes);
 }
 
--- if blocks are filled, each follows the one before it as closely as it can
-abbrev pub AreFilledBy : PagePlan → Paper → List Outcome → Type 0
-AreFilledBy PagePlan.Filled paper outcomes =
-    AreFilled (body_height paper) (all_blocks outcomes) (all_spots PagePlan.Filled paper outcomes)
-AreFilledBy (PagePlan.At spots) paper outcomes = ⊤
+-- if blocks are filled, each follows the one before it as closely as it can; else each is where the plan says
+abbrev pub AreFilledBy : PagePlan → Paper → List Outcome → List Spot → Type 0
+AreFilledBy PagePlan.Filled paper outcomes spots = AreFilled (body_height paper) (all_blocks outcomes) spots
+AreFilledBy (PagePlan.At planned) paper outcomes spots = spots ≡ planned
 
--- each block is on its page, 1500 under the one before it or at the top of the next page
-pub record AreStanding (plan : PagePlan) (paper : Paper) (outcomes : List Outcome) : Type 0 where
-  pub within : AreWithin (body_height paper) (all_blocks outcomes) (all_spots plan paper outcomes)
-  pub stacked : StandByPages (body_height paper) (all_blocks outcomes) (all_spots plan paper outcomes)
-  pub filled : AreFilledBy plan paper outcomes
+-- the blocks of the outcomes at these spots: each is on its page, 1500 under the one before it or at the top of the
+-- next page
+pub record AreStanding (plan : PagePlan) (paper : Paper) (outcomes : List Outcome) (spots : List Spot) : Type 0 where
+  pub within : AreWithin (body_height paper) (all_blocks outcomes) spots
+  pub stacked : StandByPages (body_height paper) (all_blocks outcomes) spots
+  pub filled : AreFilledBy plan paper outcomes spots
 
 -- The plan of a book: its blocks are filled; or evenly divided, so that no other division of their groups into pages
 -- that fit costs less.
