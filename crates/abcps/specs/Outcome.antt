@@ -3,7 +3,9 @@ use Rattle.std.specs.Prelude.{◌≡◌, ◌⊎◌, ◌<◌, ◌≤◌, ℕ, ◌
 use Rattle.std.specs.Io.KnownBytes.{Keeps, Appends, Consumes, IsAtEnd}
 use Rattle.eng_io.specs.Causes.{Rose}
 use Rattle.abc_lines.specs.Books.{book_of}
-use Rattle.ps_text.specs.Document.{document}
+use Rattle.ps_text.specs.Document.{SpellsSheet, document}
+use Rattle.ps_text.specs.Range.{IsSheet}
+use Rattle.ps_text.specs.declared.sheet.Sheet.{Sheet}
 use Rattle.set_book.specs.declared.outcome.Outcome.{Outcome}
 use Rattle.set_pages.specs.Sheet.{IsPagePlan, sheet_of}
 use Rattle.set_pages.specs.declared.plan.PagePlan.{PagePlan}
@@ -76,9 +78,18 @@ abbrev pub WriteFailed : Called → Stream → Stream → Type 0
 WriteFailed called o e =
     (FailedAfterPrefix o called.page × IsQuiet e) ⊎ (WroteWhole o called.page × FailedAfterPrefix e called.reported)
 
+-- A sink took a proper prefix of the document of a sheet that can be written. So what it took is no document, of
+-- whatever sheet.
+pub record HoldsNoDocument (s : Stream) (sheet : Sheet) : Type 0 where
+  pub good : IsSheet sheet
+  pub bytes : ℕ
+  pub proper : bytes < length (document sheet)
+  pub took : Appends s.before s.after (take bytes (document sheet))
+  pub none : (other : Sheet) → SpellsSheet other (take bytes (document sheet)) → ⊥
+
 -- `set` ended while some tunes of its book were left. Each tune has an outcome all the same. What output took is a
--- prefix of the document of all of them, and of the document of the first of them, fewer than all, by the same plan;
--- so it is a prefix of whatever is called for of the book.
+-- prefix of the document of all of them, and a proper one of the document of the first of them, fewer than all, by the
+-- same plan; so it is a prefix of whatever is called for of the book, and no document itself.
 pub record SetStoppedEarly (manner : Manner) (even : Bool) (text : List ℕ) (o : Stream) : Type 0 where
   pub count : ℕ
   pub left : count < length (book_of text).tunes
@@ -87,7 +98,7 @@ pub record SetStoppedEarly (manner : Manner) (even : Bool) (text : List ℕ) (o 
   pub plan : PagePlan
   pub parted : IsPagePlan even (paper_in text) outcomes plan
   pub whole : HoldsPrefix o (document (sheet_of plan (paper_in text) outcomes))
-  pub first : HoldsPrefix o (document (sheet_of plan (paper_in text) (take count outcomes)))
+  pub first : HoldsNoDocument o (sheet_of plan (paper_in text) (take count outcomes))
   pub all : (called : Called) → CallsPages manner even text called → HoldsPrefix o called.page
 
 abbrev pub StoppedEarly : Command → List ℕ → Stream → Type 0

@@ -80,11 +80,11 @@ pub record Promises (s : Status) (words : List (List ℕ)) (i o e : Stream) : Ty
       → (c : Command) × (text : List ℕ) × AsksWholeText c words i text × IsRefused c s text o e
   -- the status is a fault of a sink only if its count rose: output has a prefix of its text and errors nothing, or
   -- output has all of it and errors a prefix of its own; if `set` had tunes left, output has a prefix of the document
-  -- of its whole book
+  -- of its whole book, and this is no document
   pub write_fault : s ≡ Status.WriteFault
       → (c : Command) × (text : List ℕ) × AsksWholeText c words i text × FailedToWrite c text o e
-  -- if memory ran out, errors has nothing, and output has nothing or a prefix of its text, or of the document of a
-  -- whole book of which `set` had tunes left
+  -- if memory ran out, errors has nothing, and output has nothing or a prefix of its text; or, if `set` had tunes
+  -- left, a prefix of the document of its whole book, which is no document
   pub memory : s ≡ Status.Memory
       → IsQuiet e × (IsQuiet o ⊎ ((c : Command) × (text : List ℕ) × AsksWholeText c words i text × HoldsPart c text o))
   -- every other status is the one that is called for, and both sinks have their whole texts

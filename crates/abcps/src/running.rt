@@ -159,8 +159,8 @@ pub fn never_both()
 ///
 /// `set` reads its whole book, then writes the pages that one batch of tunes fills before it sets the next batch. It
 /// reports faults after the document is written. If a write fails or memory runs out while tunes are left, the bytes
-/// written are a prefix of the whole book's document, since each tune has an outcome, set or not; nothing is reported
-/// then.
+/// written are a prefix of the whole book's document, since each tune has an outcome, set or not. They are no document
+/// themselves, and nothing is reported then.
 ///
 /// Faulty tunes of `set` and `systems` are reported on `errors`, one line each. With `flow` no bar is forced. A score
 /// is moved by `by` semitones before it is set. With `even` the groups of blocks are divided into pages so that no
