@@ -92,12 +92,12 @@ module _ (keys : List ColumnKey) (rise : Rises keys) (lengths : List ℕ) (room 
       ≡ flat_map (column (v ∷ [])) keys
   alone v is =
       let place : WordRoom = record { room = room; first = 0; before = [] } in
-      let ss = voice_slots 1 lengths a b v in
-      voice_laid keys (Some place) 1 refl lengths a b v
-      ∙ in_order key_of (slot_laid keys (Some place)) keys ss rise (slots_rise v is 1) (slots_inside v is 1)
+      let ss = voice_slots 0 lengths a b v in
+      voice_laid keys (Some place) 0 refl lengths a b v
+      ∙ in_order key_of (slot_laid keys (Some place)) keys ss rise (slots_rise v is 0) (slots_inside v is 0)
       ∙ each_same (λ k. laid keys (Some place) (slots_at k ss)) (column (v ∷ []))
       (λ k.
-      one_column keys place k (slots_at k ss) (one_slot v is 1 k)
+      one_column keys place k (slots_at k ss) (one_slot v is 0 k)
       ∙ ap (λ t. map (drawn_at (key_rank keys k)) (column_marks (text_place room no_texts) t))
       (sym (append-nil (slots_at k ss))))
       keys
@@ -119,7 +119,7 @@ staff_same keys lengths a b vs rise all =
     let room = room_over (verses_on vs) others in
     ap (λ t. t ++ staff_bridges keys lengths a b vs) (columns_same keys rise lengths room a b vs all)
     ∙ ap (λ p. flat_map (column_at keys p (all_slots voices)) keys ++ staff_bridges keys lengths a b vs)
-    (room_same (verses_on vs) others ∙ ap (place_outside (verses_on vs)) (all_bare keys lengths a b 1 vs))
+    (room_same (verses_on vs) others ∙ ap (place_outside (verses_on vs)) (all_bare keys lengths a b 0 vs))
     ∙ ap
     (λ t. flat_map (column_at keys (place_outside (verses_on vs) (bare_laid keys voices)) (all_slots voices)) keys ++ t)
-    (bridges_same keys lengths a b 1 vs)
+    (bridges_same keys lengths a b 0 vs)
