@@ -325,7 +325,7 @@ def check_tests(crate, calls, cell, tests):
 def check_readme(crates, everything, files):
     """Checks README's tables: each crate but those of tests and the program itself has a row, the calls of a row are
     of its crates, and the clauses after a call are clauses of it. The promises' clauses are those of the top call."""
-    parts = ("abcps", "set_tune", "lay_tune", "law_every_outcome")
+    parts = ("abcps", "set_tune", "lay_tune", "law_one_outcome")
     specs = [path for part in parts for path in glob.glob(f"crates/{part}/specs/*.antt")]
     fields = {field for path in specs for field in fields_of(read(path))}
     proofs = glob.glob("crates/abcps/proofs/*.antt")

@@ -21,7 +21,7 @@ use Rattle.ps_heard.specs.HeardText.{heard_text}
 use Rattle.ps_text.specs.Document.{document}
 use Rattle.ps_text.specs.declared.sheet.Sheet.{Sheet}
 use Rattle.set_book.specs.declared.outcome.Outcome.{Outcome}
-use Rattle.set_book.specs.Once.{HaveOneOutcome}
+use Rattle.law_one_outcome.specs.Outcomes.{EveryTuneHasOneOutcome}
 use Rattle.set_pages.specs.declared.plan.PagePlan.{PagePlan}
 use Rattle.set_pages.specs.Sheet.{IsPagePlan, sheet_of}
 use Rattle.set_pages.proofs.Whole.{one_plan}
@@ -49,9 +49,9 @@ quiet_called : (c d : Called) → c.page ≡ d.page → IsQuietly c → IsQuietl
 quiet_called c d page a b = same_called c d page (a.reported ∙ sym b.reported) (a.status ∙ sym b.status)
 
 -- ---- the commands that set a book
-one_set : HaveOneOutcome
+one_set : EveryTuneHasOneOutcome
     → (manner : Manner) (text : List ℕ) (os ps : List Outcome) → AreSet manner text os → AreSet manner text ps → os ≡ ps
-one_set one manner text os ps a b = one.outcomes (terms_in manner text) (book_of text).tunes os ps a.each b.each
+one_set one manner text os ps a b = one.only (terms_in manner text) (book_of text).tunes os ps a.each b.each
 
 -- one outcome and one plan determine one answer
 by_plan : {A : Type 0} (make : PagePlan → List Outcome → A) (even : Bool) (paper : Paper) (os ps : List Outcome)
@@ -61,7 +61,7 @@ by_plan make even paper os ps plan other same is also =
     ap (λ l. make plan l) same
     ∙ ap (λ p. make p ps) (one_plan even paper ps other plan also (subst (λ l. IsPagePlan even paper l plan) same is))
 
-pages_once : HaveOneOutcome
+pages_once : EveryTuneHasOneOutcome
     → (manner : Manner) (even : Bool) (text : List ℕ) (c d : Called)
     → CallsPages manner even text c → CallsPages manner even text d
     → c ≡ d
@@ -76,7 +76,7 @@ pages_once one manner even text c d a b =
     (a.reported ∙ ap reports same ∙ sym b.reported)
     (a.status ∙ ap status_of same ∙ sym b.status)
 
-systems_once : HaveOneOutcome
+systems_once : EveryTuneHasOneOutcome
     → (manner : Manner) (table : Bool) (text : List ℕ) (c d : Called)
     → CallsSystems manner table text c → CallsSystems manner table text d
     → c ≡ d
@@ -87,7 +87,7 @@ systems_once one manner table text c d a b =
     (a.reported ∙ ap reports same ∙ sym b.reported)
     (a.status ∙ ap status_of same ∙ sym b.status)
 
-trial_once : HaveOneOutcome
+trial_once : EveryTuneHasOneOutcome
     → (tunes : ℕ) (manner : Manner) (even : Bool) (c d : Called) → Tries tunes manner even c → Tries tunes manner even d
     → c ≡ d
 trial_once one tunes manner even c d a b =
@@ -159,7 +159,7 @@ painted_once alone text c d a b =
     a.quietly b.quietly
 
 -- a command calls for one answer
-called_once : HaveOneOutcome
+called_once : EveryTuneHasOneOutcome
     → HasOneAnswer → (c : Command) (text : List ℕ) (called other : Called) → Calls c text called → Calls c text other
     → called ≡ other
 called_once one alone (Command.Set flow jobs by even) text called other a b =
@@ -181,7 +181,7 @@ by_one (Command.Set flow jobs by even) text called a = a
 by_one c text called a = a
 
 -- commands that differ only in their jobs call for one answer
-pub calls_one : HaveOneOutcome → HasOneAnswer → CallsOne
+pub calls_one : EveryTuneHasOneOutcome → HasOneAnswer → CallsOne
 calls_one one alone c d text called other same a b =
     called_once one alone (by_one_job c) text other called
     (subst (λ x. Calls x text other) same (by_one d text other b)) (by_one c text called a)

@@ -15,9 +15,10 @@ use crate::status::Status;
 use abcps_words::{Command, asks_one, command_of};
 use eng_io::{ReadError, Sink, Source, read_all};
 use eng_jobs::Jobs;
+use law_one_outcome::every_tune_has_one_outcome;
 use mus_units::Text;
 use ps_machine::one_answer;
-use set_book::{Gate, one_outcome};
+use set_book::Gate;
 use set_tune::How;
 use std::alloc::Global;
 use std::thread::Threads;
@@ -139,7 +140,7 @@ fn run_words<R: Threads + Sync, S: Source, O: Sink, E: Sink, G: Gate + Sync>(
 pub fn calls_one()
     ensures { CallsOne }
 {
-    one_outcome();
+    every_tune_has_one_outcome();
     one_answer();
 }
 

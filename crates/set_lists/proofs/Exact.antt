@@ -17,8 +17,9 @@ use Rattle.set_tune.specs.Terms.{Terms}
 use Rattle.set_tune.specs.declared.tune.SetTune.{SetTune}
 use Rattle.set_tune.specs.Setting.{HasScore, IsFaultOfTune, IsLaidTune, layout_fault, no_way, of_header, of_move}
 use Rattle.set_tune.specs.Setting.{of_score, of_share, too_tall}
-use Rattle.set_book.specs.{declared.outcome.Outcome.Outcome, Once.HaveOneOutcome}
+use Rattle.set_book.specs.declared.outcome.Outcome.{Outcome}
 use Rattle.set_book.specs.Outcomes.{AreOutcomes, IsOutcome, IsResult}
+use Rattle.law_one_outcome.proofs.Outcomes.{no_refusal, one_music}
 use Rattle.set_lists.specs.Laws.{HasItsBreakings, HasNoWayPast, ListsTheBook, NoWayIsExact, ReportsNoWay}
 use Rattle.set_lists.proofs.Legal.{breakings_of_listing}
 use Rattle.set_lists.proofs.Numbers.{book_rises}
@@ -47,29 +48,29 @@ lists_the_book bytes terms outcomes short set = record {
 }
 
 -- ---- no way
-module _ (one : HaveOneOutcome) (tune : TuneText) (terms : Terms) (header : Header) (score : Score)
+module _ (tune : TuneText) (terms : Terms) (header : Header) (score : Score)
     (has : HasScore tune terms.defaults terms.manner header score) where
   -- a score that is laid out has a legal breaking
   laid_legal : (t : SetTune) → IsLaidTune tune terms t → IsLegalIn score (body_width terms.paper) t.breaking.breaks
   laid_legal t laid =
       subst (λ s. IsLegalIn s (body_width terms.paper) t.breaking.breaks)
-      (one.score tune terms.defaults terms.manner t.header header t.score score laid.score has) laid.layout.least.legal
+      (one_music tune terms.defaults terms.manner t.header header t.score score laid.score has) laid.layout.least.legal
 
   -- what is reported to have no way is reported so of this score
   reported : (f : Fault) (reached : ℕ)
       → f.kind ≡ FaultKind.NoWay reached → IsFaultOfTune tune terms f
       → (spans : List Span) × IsNoWay score (body_width terms.paper) reached spans
   reported _ reached e (of_header f fault) =
-      absurd (one.scored tune terms.defaults terms.manner header score f has (inl (inl fault)))
+      absurd (no_refusal tune terms.defaults terms.manner header score f has (inl (inl fault)))
   reported _ reached e (of_score h f read fault) =
-      absurd (one.scored tune terms.defaults terms.manner header score f has (inl (inr (h, read, fault))))
+      absurd (no_refusal tune terms.defaults terms.manner header score f has (inl (inr (h, read, fault))))
   reported _ reached e (of_share f c) =
-      absurd (one.scored tune terms.defaults terms.manner header score f has (inr (inl c)))
+      absurd (no_refusal tune terms.defaults terms.manner header score f has (inr (inl c)))
   reported _ reached e (of_move c) = let clash : FaultKind.BadMove ≡ FaultKind.NoWay reached = e in absurd cc
   reported _ reached e (no_way h s i spans scored way) =
       let same : FaultKind.NoWay i ≡ FaultKind.NoWay reached = e in
       let bar : i ≡ reached = cc in
-      let here = one.score tune terms.defaults terms.manner h header s score scored has in (
+      let here = one_music tune terms.defaults terms.manner h header s score scored has in (
         spans,
         subst (λ n. IsNoWay score (body_width terms.paper) n spans) bar
             (subst (λ x. IsNoWay x (body_width terms.paper) i spans) here way),
@@ -81,12 +82,12 @@ module _ (one : HaveOneOutcome) (tune : TuneText) (terms : Terms) (header : Head
       → ((breaks : List ℕ) → IsLegalIn score (body_width terms.paper) breaks → ⊥)
       → (reached : ℕ) × (f ≡ layout_fault tune (FaultKind.NoWay reached))
   came_by _ (of_header f fault) none =
-      absurd (one.scored tune terms.defaults terms.manner header score f has (inl (inl fault)))
+      absurd (no_refusal tune terms.defaults terms.manner header score f has (inl (inl fault)))
   came_by _ (of_score h f read fault) none =
-      absurd (one.scored tune terms.defaults terms.manner header score f has (inl (inr (h, read, fault))))
-  came_by _ (of_share f c) none = absurd (one.scored tune terms.defaults terms.manner header score f has (inr (inl c)))
+      absurd (no_refusal tune terms.defaults terms.manner header score f has (inl (inr (h, read, fault))))
+  came_by _ (of_share f c) none = absurd (no_refusal tune terms.defaults terms.manner header score f has (inr (inl c)))
   came_by _ (of_move c) none =
-      absurd (one.scored tune terms.defaults terms.manner header score (layout_fault tune FaultKind.BadMove) has
+      absurd (no_refusal tune terms.defaults terms.manner header score (layout_fault tune FaultKind.BadMove) has
       (inr (inr (c, refl))))
   came_by _ (no_way h s i spans scored way) none = (i, refl)
   came_by _ (too_tall t block laid tall) none = absurd (none t.breaking.breaks (laid_legal t laid))
@@ -112,10 +113,10 @@ module _ (one : HaveOneOutcome) (tune : TuneText) (terms : Terms) (header : Head
       furthest = λ reached at. (way_of reached at).1.furthest_of_score;
     }
 
-pub no_way_is_exact : HaveOneOutcome → NoWayIsExact
-no_way_is_exact one terms [] [] set = tt
-no_way_is_exact one terms (t ∷ ts) (o ∷ os) set = (
-  (λ header score has. reports one t terms header score has o set.0),
-  no_way_is_exact one terms ts os set.1,
+pub no_way_is_exact : NoWayIsExact
+no_way_is_exact terms [] [] set = tt
+no_way_is_exact terms (t ∷ ts) (o ∷ os) set = (
+  (λ header score has. reports t terms header score has o set.0),
+  no_way_is_exact terms ts os set.1,
 )
-no_way_is_exact one terms ts os set = absurd set
+no_way_is_exact terms ts os set = absurd set

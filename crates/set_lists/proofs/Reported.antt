@@ -18,7 +18,7 @@ use Rattle.lay_cert.proofs.Unforced.{forced_by_spans}
 use Rattle.set_tune.specs.Terms.{Terms}
 use Rattle.set_tune.specs.declared.tune.SetTune.{SetTune}
 use Rattle.set_tune.specs.Setting.{IsSetTune}
-use Rattle.set_book.proofs.Spanned.{listed_within}
+use Rattle.law_one_outcome.proofs.Spans.{listed_within}
 use Rattle.set_book.specs.declared.outcome.Outcome.{Outcome}
 use Rattle.set_book.specs.Outcomes.{AreOutcomes, IsResult}
 use Rattle.set_lists.specs.Laws.{ListsTheSet, OrdinalsRise, OutcomesAreListable}

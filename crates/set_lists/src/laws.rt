@@ -1,8 +1,6 @@
 ghost use Rattle.set_lists.specs.Laws.{BookRises, BreakingsOfListing, ListsTheBook, ListsTheSet, NoWayIsExact};
 ghost use Rattle.set_lists.specs.Laws.{OutcomesAreListable};
 
-use set_book::one_outcome;
-
 /// The law that the numbers of a book's tunes rise.
 pub fn book_rises()
     ensures { BookRises }
@@ -32,6 +30,4 @@ pub fn lists_the_book()
 /// the bar reported is the greatest at which a legal prefix of the score ends.
 pub fn no_way_is_exact()
     ensures { NoWayIsExact }
-{
-    one_outcome();
-}
+{}

@@ -2,4 +2,4 @@ use Rattle.set_lists.proofs.Exact as laws
 use Rattle.set_lists.proofs.laws.no_way_is_exact.Goals as goal
 
 pub returns : goal.returns
-returns c = laws.no_way_is_exact c.one_outcome.ensures
+returns c = laws.no_way_is_exact

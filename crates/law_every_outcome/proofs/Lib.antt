@@ -1,4 +1,0 @@
-mod Defaults
-mod Draws
-mod Every
-mod Moves

@@ -1,7 +1,0 @@
-mod Bodies
-mod GoodFields
-mod Headers
-mod HeaderValues
-mod Parts
-mod Scores
-mod Said

@@ -1,5 +1,0 @@
-use Rattle.law_every_score.proofs.Said.{read_as_said}
-use Rattle.law_every_score.proofs.law.lines_are_read_as_said.Goals as goal
-
-pub returns : goal.returns
-returns c = read_as_said c.states_are_as_written.ensures
