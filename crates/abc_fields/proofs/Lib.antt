@@ -4,5 +4,6 @@ pub mod FileHeaderLaws
 pub mod HeaderLaws
 pub mod OneHeader
 pub mod PaperForms
+pub mod SaidHeaders
 pub mod ValueLaws
 pub mod VoiceLaws

@@ -1,13 +1,14 @@
 -- The values read from the lines of a header are those that they say: the last of each kind.
 use Rattle.std.proofs.Common.{◌≡◌, refl, sym, ap, ◌∙◌, subst, ℕ, ◌+◌, List, [], ◌∷◌}
 use Rattle.std.proofs.lemmas.Option.{none-some}
-use Rattle.std.specs.Prelude.{Option, Some, None, IfSome, Result, Ok, Err, unwrap_or}
-use Rattle.std.specs.List.{filter_map}
+use Rattle.std.specs.Prelude.{Option, Some, None, IfSome, Result, Ok, Err, fold, map, unwrap_or}
+use Rattle.std.specs.List.{AllByRecursion, filter_map}
 use Rattle.std.specs.Option.{option_or}
 use Rattle.abc_lines.specs.declared.book.Line.{Line}
 use Rattle.abc_lines.specs.declared.book.TuneText.{TuneText}
 use Rattle.abc_lines.specs.declared.fault.FaultKind.{FaultKind}
 use Rattle.abc_field.specs.declared.field.Field.{Field}
+use Rattle.abc_field.specs.declared.voice.VoiceDef.{VoiceDef}
 use Rattle.abc_field.specs.FieldSpelling.{Says}
 use Rattle.abc_field.specs.Fields.{field_of}
 use Rattle.abc_field.specs.Last.{last_of}
@@ -19,7 +20,8 @@ use Rattle.abc_fields.specs.Headers.{title_in, composer_in, tempo_in, key_in, me
 use Rattle.abc_fields.specs.Headers.{put_field, fields_of, header_of, staves_from, first_line_number, head_lines}
 use Rattle.abc_fields.specs.Headers.{key_place, IsHeaderBy, IsHeaderOf}
 use Rattle.abc_fields.specs.HeaderValues.{SaysValue, AreAllSaid, no_more, one_said, none_said, AreValuesBy}
-use Rattle.abc_fields.specs.HeaderValues.{AreValuesUpTo, AreValuesOf}
+use Rattle.abc_fields.specs.HeaderValues.{AreValuesUpTo, AreValuesOf, AreVoicesBy, IsVoiceBy}
+use Rattle.abc_fields.specs.Voicing.{clef_for, id_in, ids_after, ids_of, voice_from, voices_of, wish_for, with_id}
 use Rattle.abc_fields.proofs.FileHeaderLaws.{Reads, last-is, last-or}
 
 module _ {X : Type 0} (value : Field → Option X) where
@@ -97,6 +99,46 @@ module _ {X : Type 0} (value : Field → Option X) where
       rw (all_put (field_of line.text) (fields_of lines))
       (one_line line lines (line_value line) (filter_map value (fields_of lines)) refl (all_said lines))
 
+-- ---- the voices
+ids_put : (ids : List (List ℕ)) (field : Field) (named : List (List ℕ))
+    → fold with_id (ids_after ids field) named ≡ fold with_id ids (with_value id_in (id_in field) named)
+ids_put ids (Field.Voice def) named = refl
+ids_put ids _ named = refl
+
+ids_named : (ids : List (List ℕ)) (fs : List Field) → fold ids_after ids fs ≡ fold with_id ids (filter_map id_in fs)
+ids_named ids [] = refl
+ids_named ids (field ∷ fs) =
+    ids_named (ids_after ids field) fs ∙ ids_put ids field (filter_map id_in fs)
+    ∙ ap (fold with_id ids) (sym (all_put id_in (Ok field) fs))
+
+same_ids : (fs : List Field) (ids : List (List ℕ))
+    → map (λ (voice : VoiceDef). voice.id) (map (voice_from fs) ids) ≡ ids
+same_ids fs [] = refl
+same_ids fs (id ∷ ids) = ap (λ more. id ∷ more) (same_ids fs ids)
+
+each_voice : (lines : List Line) (ids : List (List ℕ))
+    → AllByRecursion (IsVoiceBy lines) (map (voice_from (fields_of lines)) ids)
+each_voice lines [] = tt
+each_voice lines (id ∷ ids) = (
+  record {
+    clef = last_said (clef_for id) lines;
+    stem = last_of (wish_for id) (fields_of lines);
+    stem_said = last_said (wish_for id) lines;
+    stem_is = refl;
+    asks = refl;
+  },
+  each_voice lines ids,
+)
+
+pub voices_by : (lines : List Line) → AreVoicesBy lines (voices_of (fields_of lines))
+voices_by lines = record {
+  named = filter_map id_in (fields_of lines);
+  all_named = all_said id_in lines;
+  ids = same_ids (fields_of lines) (ids_of (fields_of lines)) ∙ ids_named [] (fields_of lines);
+  each = each_voice lines (ids_of (fields_of lines));
+}
+
+-- ---- the header
 values_by : (lines : List Line) (defaults : Defaults) (staves : Option Line) (body : ℕ)
     → AreValuesBy lines defaults (header_of (fields_of lines) defaults staves body)
 values_by lines defaults staves body = record {

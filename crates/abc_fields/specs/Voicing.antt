@@ -21,6 +21,11 @@ ids_after ids _ = ids
 abbrev pub ids_of : List Field → List (List ℕ)
 ids_of fs = fold ids_after [] fs
 
+-- the id, the clef and the stem direction that a voice field names
+abbrev pub id_in : Field → Option (List ℕ)
+id_in (Field.Voice def) = Some def.id
+id_in _ = None
+
 abbrev pub clef_for : List ℕ → Field → Option Clef
 clef_for id (Field.Voice def) = if bytes_eq def.id id then def.clef else None
 clef_for id _ = None

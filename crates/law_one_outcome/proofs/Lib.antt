@@ -6,7 +6,6 @@ mod Draws
 mod Each
 mod Forced
 mod GoodFields
-mod HeaderValues
 mod Headers
 mod Layouts
 mod Moves

@@ -15,7 +15,8 @@ use Rattle.mus_lyric.specs.Syllables.{AreSyllablesOf, after_run, syllables_of}
 use Rattle.mus_lyric.proofs.SingingLaws.{is_sung, is_one as one_sung}
 use Rattle.mus_lyric.proofs.SyllableLaws.{is_spelt, is_one as one_spelt}
 use Rattle.law_one_outcome.specs.Said.{Exactly, IsReadAsSaid}
-use Rattle.law_one_outcome.proofs.{HeaderValues.{header_is, header_says}, Parts.{parts_found, parts_taken}}
+use Rattle.abc_fields.proofs.SaidHeaders.{header_is, header_says}
+use Rattle.law_one_outcome.proofs.Parts.{parts_found, parts_taken}
 
 exact_syllables : (words : List ℕ) (syls : List Syl) → Exactly (syls ≡ syllables_of words) (AreSyllablesOf words syls)
 unfolding syllables_of

@@ -14,12 +14,11 @@ use Rattle.abc_fields.specs.declared.defaults.Defaults.{Defaults}
 use Rattle.abc_fields.specs.declared.header.Header.{Header}
 use Rattle.abc_fields.specs.declared.paper.Paper.{Paper}
 use Rattle.abc_fields.specs.Defaults.{defaults_of}
-use Rattle.abc_fields.specs.FileHeader.{AreDefaultsBy, AreStavesOf, IsPaperBy}
+use Rattle.abc_fields.specs.FileHeader.{AreDefaultsBy, IsPaperBy}
 use Rattle.abc_fields.specs.HeaderFaults.{IsClearHeader, IsFaultOfHeader}
-use Rattle.abc_fields.specs.HeaderValues.{AreValuesOf}
-use Rattle.abc_fields.specs.Headers.{fields_of, head_lines, header_fault, IsHeaderOf, key_place}
+use Rattle.abc_fields.specs.HeaderValues.{SaysHeader}
+use Rattle.abc_fields.specs.Headers.{header_fault, IsHeaderOf}
 use Rattle.abc_fields.specs.Papers.{paper_of}
-use Rattle.abc_fields.specs.Voicing.{voices_of}
 use Rattle.abc_steps.specs.Written.{IsStateAsWritten}
 use Rattle.mus_lyric.specs.declared.singing.NoteAt.{NoteAt}
 use Rattle.mus_lyric.specs.declared.singing.Sung.{Sung}
@@ -30,18 +29,6 @@ use Rattle.mus_lyric.specs.Syllables.{AreSyllablesOf, syllables_of}
 -- each follows from the other
 abbrev pub Exactly : Type 0 → Type 0 → Type 0
 Exactly A B = (A → B) × (B → A)
-
--- the voices of a header are those that the fields of its lines up to the first `K:` name, and its body follows them
-abbrev pub HasVoicesUpTo : TuneText → Option ℕ → Header → Type 0
-HasVoicesUpTo tune None header = ⊥
-HasVoicesUpTo tune (Some place) header =
-    (header.voices ≡ voices_of (fields_of (head_lines tune place))) × (header.body ≡ place + 1)
-
--- each value of a header is the last that a line up to the first `K:` says, or, if no line says one, its default
-pub record SaysHeader (tune : TuneText) (defaults : Defaults) (header : Header) : Type 0 where
-  pub values : AreValuesOf tune defaults header
-  pub staves : AreStavesOf tune defaults header.staves
-  pub voices : HasVoicesUpTo tune (key_place tune.lines) header
 
 pub record IsReadAsSaid : Type 0 where
   -- a line, or a letter and a text within a music line, is read as a field exactly if it says it

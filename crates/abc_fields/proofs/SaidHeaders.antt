@@ -1,11 +1,13 @@
 -- The values that a header's lines say determine it: each relation of `HeaderValues` holds of one value alone.
 use Rattle.std.proofs.Common.{◌≡◌, refl, sym, ap, ◌∙◌, subst, ℕ, ◌+◌, List, [], ◌∷◌, ◌++◌, inl, inr}
 use Rattle.std.proofs.lemmas.Option.{same_Some}
-use Rattle.std.specs.Prelude.{Option, Some, None, Result, Ok, Err}
-use Rattle.std.specs.List.{filter_map}
+use Rattle.std.specs.Prelude.{Option, Some, None, Result, Ok, Err, fold, is_some, map, unwrap_or}
+use Rattle.std.specs.List.{AllByRecursion, filter_map}
 use Rattle.abc_lines.specs.declared.book.Line.{Line}
 use Rattle.abc_lines.specs.declared.book.TuneText.{TuneText}
 use Rattle.abc_lines.specs.declared.fault.FaultKind.{FaultKind}
+use Rattle.mus_units.specs.declared.note.Wish.{Wish}
+use Rattle.abc_field.specs.declared.voice.VoiceDef.{VoiceDef}
 use Rattle.abc_field.specs.declared.field.Field.{Field}
 use Rattle.abc_field.specs.Fields.{field_of}
 use Rattle.abc_field.proofs.FieldForms.{line-says, line-read}
@@ -16,12 +18,13 @@ use Rattle.abc_fields.specs.FileHeader.{StatesStaves}
 use Rattle.abc_fields.specs.Headers.{title_in, composer_in, tempo_in, key_in, meter_in, unit_in, breaks_in, spread_in}
 use Rattle.abc_fields.specs.Headers.{IsHeaderBy, IsHeaderOf, fields_of, first_line_number, head_lines, header_of}
 use Rattle.abc_fields.specs.Headers.{key_clef, key_place, key_signs, put_field, staves_from, unit_by}
-use Rattle.abc_fields.specs.HeaderValues.{AreAllSaid, AreValuesBy, AreValuesUpTo, SaysValue}
+use Rattle.abc_fields.specs.HeaderValues.{AreAllSaid, AreValuesBy, AreValuesUpTo, AreVoicesBy, HasVoicesUpTo, IsVoiceBy}
+use Rattle.abc_fields.specs.HeaderValues.{SaysHeader, SaysValue}
 use Rattle.abc_fields.specs.HeaderValues.{no_more, one_said, none_said}
 use Rattle.abc_fields.proofs.DirectiveForms.{directive-read}
 use Rattle.abc_fields.proofs.FileHeaderLaws.{header_staves}
-use Rattle.abc_fields.proofs.ValueLaws.{header_values}
-use Rattle.law_one_outcome.specs.Said.{HasVoicesUpTo, SaysHeader}
+use Rattle.abc_fields.specs.Voicing.{clef_for, id_in, wish_for, with_id}
+use Rattle.abc_fields.proofs.ValueLaws.{header_values, voices_by}
 
 -- ---- one last value
 module _ {X : Type 0} (States : Line → X → Type 0)
@@ -110,6 +113,37 @@ same_staves lines first other s t (inl a) (inr b) = absurd (none_last StatesStav
 same_staves lines first other s t (inr a) (inl b) = absurd (none_last StatesStaves one_staves lines b.0 a.0 b.1)
 same_staves lines first other s t (inr a) (inr b) = a.1 ∙ sym b.1
 
+-- ---- the voices
+module _ (lines : List Line) where
+  one_voice : (a b : VoiceDef) → a.id ≡ b.id → IsVoiceBy lines a → IsVoiceBy lines b → a ≡ b
+  one_voice a b id of_a of_b =
+      let clef = one_if_any (SaysValue (clef_for b.id)) (one_value (clef_for b.id)) lines a.clef b.clef
+      (subst (λ i. IsLastIfAny (SaysValue (clef_for i)) lines a.clef) id of_a.clef) of_b.clef in
+      let said = one_if_any (SaysValue (wish_for b.id)) (one_value (wish_for b.id)) lines of_a.stem of_b.stem
+      (subst (λ i. IsLastIfAny (SaysValue (wish_for i)) lines of_a.stem) id of_a.stem_said) of_b.stem_said in
+      let stem : a.stem ≡ b.stem = of_a.stem_is ∙ ap (λ o. unwrap_or o Wish.Auto) said ∙ sym of_b.stem_is in
+      let asks : a.asks ≡ b.asks = of_a.asks ∙ ap is_some said ∙ sym of_b.asks in
+      let same : record { id = a.id; clef = a.clef; stem = a.stem; asks = a.asks } ≡ b =
+      rw (id, clef, stem, asks) refl in
+      same
+
+  one_each : (vs ws : List VoiceDef)
+      → map (λ (v : VoiceDef). v.id) vs ≡ map (λ (v : VoiceDef). v.id) ws
+      → AllByRecursion (IsVoiceBy lines) vs → AllByRecursion (IsVoiceBy lines) ws → vs ≡ ws
+  one_each [] [] e a b = refl
+  one_each [] (w ∷ ws) e a b = cc
+  one_each (v ∷ vs) [] e a b = cc
+  one_each (v ∷ vs) (w ∷ ws) e a b =
+      let id : v.id ≡ w.id = cc in
+      let more : map (λ (v : VoiceDef). v.id) vs ≡ map (λ (v : VoiceDef). v.id) ws = cc in
+      let first = one_voice v w id a.0 b.0 in
+      let others = one_each vs ws more a.1 b.1 in cc
+
+  same_voices : (vs ws : List VoiceDef) → AreVoicesBy lines vs → AreVoicesBy lines ws → vs ≡ ws
+  same_voices vs ws a b =
+      let named = all_read id_in lines a.named a.all_named ∙ sym (all_read id_in lines b.named b.all_named) in
+      one_each vs ws (a.ids ∙ ap (fold with_id []) named ∙ sym b.ids) a.each b.each
+
 -- ---- the header
 module _ (lines : List Line) (defaults : Defaults) where
   last_same : {X : Type 0} (value : Field → Option X) (o p : Option X)
@@ -172,14 +206,17 @@ header_up_to tune defaults header (Some place) e values staves voices =
     subst (λ p. AreValuesUpTo tune defaults p read) e (header_values tune defaults read is) in
     let seats : AreStavesBy lines first defaults.staves read.staves =
     subst (λ p. AreStavesUpTo tune defaults.staves p read.staves) e (header_staves tune defaults read is) in
-    one_header lines defaults header read values says voices.0
+    let voice = same_voices lines header.voices read.voices voices.0 (voices_by lines) in
+    one_header lines defaults header read values says voice
     (same_staves lines first defaults.staves header.staves read.staves staves seats) voices.1
 
 has_voices : (tune : TuneText) (defaults : Defaults) (header : Header) (place : Option ℕ)
     → IsHeaderBy tune defaults header place → HasVoicesUpTo tune place header
 has_voices tune defaults header None is = is
-has_voices tune defaults header (Some place) is =
-    (ap (λ (h : Header). h.voices) is, ap (λ (h : Header). h.body) is)
+has_voices tune defaults header (Some place) is = (
+  subst (λ (h : Header). AreVoicesBy (head_lines tune place) h.voices) (sym is) (voices_by (head_lines tune place)),
+  ap (λ (h : Header). h.body) is,
+)
 
 -- a header of a tune is what its lines say
 pub header_says : (tune : TuneText) (defaults : Defaults) (header : Header)
