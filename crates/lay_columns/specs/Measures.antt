@@ -1,6 +1,6 @@
 -- The columns of one measure: in a system that begins with it, and in one that began before. Columns depend neither
 -- on heights nor on the texts already in a column, so syllables and texts are placed in a fixed room.
-use Rattle.mus_laid.specs.Boxes.{top_line}
+use Rattle.mus_laid.specs.Distances.{top_line}
 use Rattle.std.specs.Prelude.{◌≡◌, ℕ, pos, ◌+◌, ◌-◌, ◌==◌, Bool, true, false, List, [], ◌∷◌, ◌++◌, drop, map, min}
 use Rattle.std.specs.Prelude.{slice_get, slice_range, Option, Some, None}
 use Rattle.mus_score.specs.declared.score.Score.{Score}

@@ -1,5 +1,5 @@
 -- The stacked staves of a system. Heights are counted from the top of the block, and are negative below it.
-use Rattle.mus_laid.specs.Boxes.{top_line}
+use Rattle.mus_laid.specs.Distances.{top_line}
 use Rattle.std.specs.Prelude.{◌≡◌, ⊤, ℕ, suc, ◌+◌, ℤ, pos, negsuc, ◌+ℤ◌, ◌-ℤ◌, ◌≤ℤ◌, List, [], ◌∷◌}
 use Rattle.mus_laid.specs.declared.laid.StaffMarks.{StaffMarks}
 

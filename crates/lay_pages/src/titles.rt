@@ -6,7 +6,7 @@ ghost use Rattle.lay_pages.specs.Titles.{row_height, base_below, size_at, most_w
 ghost use Rattle.lay_pages.specs.Titles.{with_row, with_text, with_texts, tempo_texts, no_rows, title_block_of};
 
 use crate::distances::{BIG_BASE, BIG_ROW, SMALL_BASE, SMALL_ROW};
-use mus_laid::printed_within;
+use mus_laid::{character_width, printed_within};
 use mus_units::{Memory, Row, Size, Text};
 use std::alloc::Global;
 use std::cmp::min;
@@ -159,10 +159,7 @@ fn base_below(size: Size) -> u64
 fn most_within(width: u32, size: Size) -> usize
     ensures { result ≡ most_within width size }
 {
-    match size {
-        Size::Big => min(60, width / 960) as usize,
-        Size::Small => min(60, width / 540) as usize,
-    }
+    min(60, width / character_width(size)) as usize
 }
 
 /// Returns where a row begins, from the left of the body.
@@ -171,8 +168,8 @@ fn row_x(width: u32, place: Alignment, count: usize) -> i64
     ensures { result ≡ pos (row_x width place count) }
 {
     match place {
-        Alignment::Middle => i64::from((width - 960 * count as u32) / 2),
-        Alignment::Right => i64::from(width - 540 * count as u32),
+        Alignment::Middle => i64::from((width - character_width(Size::Big) * count as u32) / 2),
+        Alignment::Right => i64::from(width - character_width(Size::Small) * count as u32),
         Alignment::Left => 0,
     }
 }

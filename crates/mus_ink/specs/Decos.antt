@@ -1,5 +1,5 @@
 -- The top of an event, its decorations, and all marks of an event except its syllables and texts.
-use Rattle.mus_laid.specs.Boxes.{top_line}
+use Rattle.mus_laid.specs.Distances.{top_line}
 use Rattle.std.specs.Prelude.{ℕ, ℤ, pos, ◌+ℤ◌, Bool, true, false, List, [], ◌∷◌, ◌++◌, Option, Some, None}
 use Rattle.std.specs.Int.{int_max}
 use Rattle.mus_units.specs.declared.glyph.Glyph.{Glyph}

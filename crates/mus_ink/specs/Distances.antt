@@ -23,9 +23,6 @@ grace_sign_side = 600
 abbrev pub level_step : ℕ
 level_step = 375
 
-abbrev pub beam_thickness : ℕ
-beam_thickness = 250
-
 -- decorations: the lowest height, that of the first above the top of its event, and from each to the next
 abbrev pub deco_line : ℕ
 deco_line = 2250

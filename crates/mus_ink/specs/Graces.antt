@@ -15,7 +15,8 @@ use Rattle.mus_laid.specs.declared.drawn.LaneInk.{LaneInk}
 use Rattle.mus_laid.specs.declared.drawn.Bridge.{Bridge}
 use Rattle.mus_onsets.specs.declared.keys.ColumnKey.{ColumnKey}
 use Rattle.mus_ink.specs.declared.graces.Group.{Group}
-use Rattle.mus_ink.specs.Distances.{beam_thickness, grace_sign_side, grace_stem_length, grace_stem_side}
+use Rattle.mus_laid.specs.Distances.{beam_thickness}
+use Rattle.mus_ink.specs.Distances.{grace_sign_side, grace_stem_length, grace_stem_side}
 use Rattle.mus_ink.specs.Drawing.{back, beam, cut_dy, glyph, stem}
 use Rattle.mus_ink.specs.Notes.{dy_of, highest_dy, lowest_dy, sign_marks, ledger_marks}
 

@@ -2,7 +2,8 @@
 use Rattle.std.specs.Prelude.{ℕ, zero, suc, ℤ, pos, ◌+◌, ◌-◌, ◌*◌, max, ◌+ℤ◌, ◌-ℤ◌, Bool, true, false, ◌&&◌, ◌==◌}
 use Rattle.std.specs.Prelude.{if◌then◌else◌, List, [], ◌∷◌, ◌++◌}
 use Rattle.{mus_stems.specs.declared.plans.StemPlan.{StemPlan}, mus_laid.specs.declared.drawn.LaneInk.{LaneInk}}
-use Rattle.mus_ink.specs.Distances.{beam_thickness, level_step, stem_side}
+use Rattle.mus_laid.specs.Distances.{beam_thickness}
+use Rattle.mus_ink.specs.Distances.{level_step, stem_side}
 use Rattle.mus_ink.specs.Drawing.{back, cut_dy, glyph, loose_glyph, stem}
 use Rattle.mus_ink.specs.Kinds.{flag_glyph, stub_glyph}
 

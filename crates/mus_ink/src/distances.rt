@@ -15,8 +15,6 @@ pub const GRACE_STEM_LENGTH: i64 = 1250;
 pub const GRACE_SIGN_SIDE: i32 = 600;
 /// From a flag, or a level of a beam, to the next one.
 pub const LEVEL_STEP: i64 = 375;
-/// The thickness of a beam.
-pub const BEAM_THICKNESS: i64 = 250;
 
 /// The lowest height of a decoration.
 pub const DECO_LINE: i64 = 2250;

@@ -11,10 +11,10 @@ ghost use Rattle.mus_ink.specs.Graces.{above_head, grace_own_end, greatest_end, 
 ghost use Rattle.mus_ink.specs.Graces.{grace_stem_from, at_end, ends, grace_body, grace_marks, beam_edge, grace_beam};
 ghost use Rattle.mus_laid.specs.Ranked.{inked};
 
-use crate::distances::{BEAM_THICKNESS, GRACE_SIGN_SIDE, GRACE_STEM_LENGTH, GRACE_STEM_SIDE};
+use crate::distances::{GRACE_SIGN_SIDE, GRACE_STEM_LENGTH, GRACE_STEM_SIDE};
 use crate::drawing::{cut_dy, put_beam, put_glyph, put_stem};
 use crate::notes::{head_dy, highest_dy, lowest_dy, put_ledgers, put_signs};
-use mus_laid::{Bridge, MarkPen};
+use mus_laid::{BEAM_THICKNESS, Bridge, MarkPen};
 use mus_onsets::ColumnKey;
 use mus_score::Event;
 use mus_stems::{HeadPosition, highest_head, ledgers_for, lowest_head, signs_for, stands};

@@ -5,10 +5,10 @@ ghost use Rattle.mus_ink.specs.Stems.{stem_dx, stem_if, flag_dy, flag_marks, low
 ghost use Rattle.mus_ink.specs.Stems.{stem_marks};
 ghost use Rattle.{mus_stems.specs.Slope.{with_end}, mus_laid.specs.Ranked.{inked}};
 
-use crate::distances::{BEAM_THICKNESS, LEVEL_STEP, STEM_SIDE};
+use crate::distances::{LEVEL_STEP, STEM_SIDE};
 use crate::drawing::{cut_dy, put_glyph, put_loose_glyph, put_stem};
 use crate::kinds::{flag_glyph, stub_glyph};
-use mus_laid::MarkPen;
+use mus_laid::{BEAM_THICKNESS, MarkPen};
 use mus_stems::StemPlan;
 use mus_units::Memory;
 

@@ -1,19 +1,17 @@
 -- The boxes that marks fill: from the least to the greatest height, and from the left to the right of the column.
 -- Stems, beams and arcs have heights only.
-use Rattle.std.specs.Prelude.{ℕ, ℤ, pos, negsuc, ◌*◌, ◌≤◌, ◌+ℤ◌, ⊤, List, [], ◌∷◌, length, Option, Some, None}
+use Rattle.std.specs.Prelude.{ℕ, ℤ, pos, ◌*◌, ◌≤◌, ◌+ℤ◌, ◌-ℤ◌, ⊤, List, [], ◌∷◌, length, Option, Some, None}
 use Rattle.std.specs.Int.{int_min, int_max}
 use Rattle.std.specs.List.{AllByRecursion}
 use Rattle.mus_units.specs.declared.glyph.Glyph.{Glyph}
 use Rattle.mus_units.specs.declared.glyph.Size.{Size}
 use Rattle.glyph_paths.specs.Bounds.{bounds_in}
+use Rattle.mus_laid.specs.Distances.{beam_thickness, big_above, big_below, big_width, small_above, small_below}
+use Rattle.mus_laid.specs.Distances.{small_width, top_line}
 use Rattle.mus_laid.specs.declared.laid.Mark.{Mark}
 use Rattle.mus_laid.specs.declared.laid.Laid.{Laid}
 use Rattle.mus_laid.specs.declared.boxes.HeightRange.{HeightRange}
 use Rattle.mus_laid.specs.declared.boxes.Sides.{Sides}
-
--- the height of the top line of a staff, in u above the bottom line
-abbrev pub top_line : ℕ
-top_line = 2000
 
 -- a text has at most 60 characters
 abbrev pub IsGoodMark : Mark → Type 0
@@ -25,16 +23,16 @@ AreGoodMarks = AllByRecursion (λ laid. IsGoodMark laid.mark)
 
 -- the width of a character, and how far a line of text goes below and above its base
 abbrev pub character_width : Size → ℕ
-character_width Size.Small = 540
-character_width Size.Big = 960
+character_width Size.Small = small_width
+character_width Size.Big = big_width
 
 abbrev pub text_low : Size → ℤ
-text_low Size.Small = negsuc 269
-text_low Size.Big = negsuc 479
+text_low Size.Small = pos 0 -ℤ pos small_below
+text_low Size.Big = pos 0 -ℤ pos big_below
 
 abbrev pub text_high : Size → ℤ
-text_high Size.Small = pos 720
-text_high Size.Big = pos 1280
+text_high Size.Small = pos small_above
+text_high Size.Big = pos big_above
 
 abbrev pub heights : ℤ → ℤ → HeightRange
 heights low high = record { low = low; high = high }
@@ -50,9 +48,9 @@ text_heights size dy = heights (dy +ℤ text_low size) (dy +ℤ text_high size)
 unfoldable pub stem_heights : ℤ → ℤ → HeightRange
 stem_heights from to = heights (int_min from to) (int_max from to)
 
--- a beam from its lesser lower edge to 250 above the greater one
+-- a beam from its lesser lower edge to its thickness above the greater one
 unfoldable pub beam_heights : ℤ → ℤ → HeightRange
-beam_heights from to = heights (int_min from to) (int_max from to +ℤ pos 250)
+beam_heights from to = heights (int_min from to) (int_max from to +ℤ pos beam_thickness)
 
 abbrev pub over_four : ℤ → ℤ → ℤ → ℤ → HeightRange
 over_four a b c d = heights (int_min (int_min a b) (int_min c d)) (int_max (int_max a b) (int_max c d))

@@ -1,4 +1,5 @@
 pub mod Boxes
+pub mod Distances
 pub mod Printed
 pub mod Ranked
 pub mod Shapes

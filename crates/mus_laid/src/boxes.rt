@@ -1,14 +1,16 @@
 ghost use Rattle.std.specs.{Prelude.◌≡◌, Prelude.◌+ℤ◌, Prelude.◌≤◌, Prelude.length, Int.int_min, Int.int_max};
+ghost use Rattle.mus_laid.specs.Distances.{big_width};
 ghost use Rattle.mus_laid.specs.Boxes.{IsGoodMark, character_width, text_low, text_high, glyph_heights, text_heights};
 ghost use Rattle.mus_laid.specs.Boxes.{stem_heights, beam_heights, over_four, arc_heights, heights_of, glyph_sides};
 ghost use Rattle.mus_laid.specs.Boxes.{text_sides, sides_of, union_of_heights, staff_heights};
 
+use crate::distances::{
+    BEAM_THICKNESS, BIG_ABOVE, BIG_BELOW, BIG_WIDTH, SMALL_ABOVE, SMALL_BELOW, SMALL_WIDTH,
+    TOP_LINE,
+};
 use crate::laid::{Laid, Mark};
 use glyph_paths::bounds_of;
 use mus_units::{Glyph, Size};
-
-/// The height of the top line of a staff, in u above the bottom line.
-pub const TOP_LINE: i32 = 2000;
 
 /// The range from the least to the greatest height, in u above the staff's bottom line.
 #[derive(Clone, Copy, PartialEq, Eq)]
@@ -48,12 +50,12 @@ fn text_heights(size: Size, dy: i32) -> HeightRange
     let dy = i64::from(dy);
     match size {
         Size::Small => HeightRange {
-            low: dy - 270,
-            high: dy + 720,
+            low: dy - SMALL_BELOW,
+            high: dy + SMALL_ABOVE,
         },
         Size::Big => HeightRange {
-            low: dy - 480,
-            high: dy + 1280,
+            low: dy - BIG_BELOW,
+            high: dy + BIG_ABOVE,
         },
     }
 }
@@ -88,7 +90,7 @@ fn beam_heights(from: i32, to: i32) -> HeightRange
     let (from, to) = (i64::from(from), i64::from(to));
     HeightRange {
         low: least(from, to),
-        high: greatest(from, to) + 250,
+        high: greatest(from, to) + BEAM_THICKNESS,
     }
 }
 
@@ -145,13 +147,14 @@ fn glyph_sides(glyph: Glyph, dx: i32) -> Sides
     }
 }
 
-fn character_width(size: Size) -> u32
+/// Returns the width of a character of text, in u.
+pub fn character_width(size: Size) -> u32
     ensures value { result ≡ character_width size }
-    ensures most { result ≤ 960 }
+    ensures most { result ≤ big_width }
 {
     match size {
-        Size::Small => 540,
-        Size::Big => 960,
+        Size::Small => SMALL_WIDTH,
+        Size::Big => BIG_WIDTH,
     }
 }
 

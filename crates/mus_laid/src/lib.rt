@@ -4,14 +4,16 @@
 
 pub mod boxes;
 pub mod columns;
+pub mod distances;
 pub mod drawn;
 pub mod laid;
 pub mod pen;
 pub mod printing;
 pub mod ranking;
 
-pub use boxes::{HeightRange, Sides, TOP_LINE, heights_of, sides_of, staff_heights};
+pub use boxes::{HeightRange, Sides, character_width, heights_of, sides_of, staff_heights};
 pub use columns::{anchor_rank, by_columns};
+pub use distances::{BEAM_THICKNESS, TOP_LINE};
 pub use drawn::{Bridge, BridgeShape, Ink, LaneInk};
 pub use laid::{Laid, Lane, Mark, StaffMarks, SystemMarks};
 pub use mus_units::{Glyph, Size, Way};

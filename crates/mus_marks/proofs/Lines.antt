@@ -1,5 +1,5 @@
 -- Marks cover at least the lines of their staff.
-use Rattle.mus_laid.specs.Boxes.{top_line}
+use Rattle.mus_laid.specs.Distances.{top_line}
 use Rattle.std.proofs.{Common.{ℤ, pos, ◌≤ℤ◌, List, [], ◌∷◌, arith}, lemmas.Int.{ints, clamps}}
 use Rattle.mus_laid.specs.declared.boxes.HeightRange.{HeightRange}
 use Rattle.mus_laid.specs.declared.laid.Laid.{Laid}

@@ -1,6 +1,6 @@
 -- The marks of a staff in a system, for the voices on it: in the columns the head, the bar before the first measure
 -- and the measures; then the beams of notes, those of graces, and the arcs.
-use Rattle.mus_laid.specs.Boxes.{top_line}
+use Rattle.mus_laid.specs.Distances.{top_line}
 use Rattle.std.specs.Prelude.{ℕ, ◌+◌, pos, ◌≤ℤ◌, ◌==◌, Bool, true, false, not, ◌&&◌, ◌||◌, if◌then◌else◌, List, [], ◌∷◌}
 use Rattle.std.specs.Prelude.{◌++◌, length, map, sum, flat_map, count_by, slice_range, slice_index_or, Option, Some}
 use Rattle.std.specs.Prelude.{None}
