@@ -1,7 +1,7 @@
 -- What stands at a key, among things that have column keys: at most one if their keys rise. Along the keys of a
 -- system things come in the order of their keys, and each where its rank says.
-use Rattle.std.proofs.Common.{◌≡◌, ◌∙◌, ℕ, zero, suc, ◌+◌, ◌<◌, ◌==◌, ◌⊎◌, inl, inr, Bool, true, false, cond, List, []}
-use Rattle.std.proofs.Common.{◌∷◌, ◌++◌, length, map, refl, sym, ap, subst, if◌then◌else◌, arith}
+use Rattle.std.proofs.Common.{◌≡◌, ◌∙◌, ℕ, zero, suc, ◌+◌, ◌<◌, ◌≤◌, ◌==◌, ◌⊎◌, inl, inr, Bool, true, false, cond, List}
+use Rattle.std.proofs.Common.{[], ◌∷◌, ◌++◌, length, map, refl, sym, ap, subst, if◌then◌else◌, arith}
 use Rattle.std.proofs.lemmas.Bool.{eq-eqb, ne_eqb}
 use Rattle.std.proofs.lemmas.Bool.Decides.{nat_tests}
 use Rattle.std.proofs.lemmas.List.{append-nil}
@@ -110,6 +110,17 @@ module _ {S : Type 0} (key : S → ColumnKey) where
           let same = is_same (key s) k e in
           inr (s, same, ap (λ t. s ∷ t) (none_at k ss (subst (λ l. BelowAll l (map key ss)) same rise.0)))
       by false e more = more
+
+  pub some_at : (k : ColumnKey) (ss : List S) → Contains (map key ss) k → 1 ≤ length (at k ss)
+  some_at k [] (i, inside, is) = absurd (omega (arith, inside))
+  some_at k (s ∷ ss) (zero, inside, is) =
+      subst (λ b. 1 ≤ length (cond b (s ∷ at k ss) (at k ss))) (sym (ap (λ l. same_key l k) is ∙ same_itself k))
+      (omega arith)
+  some_at k (s ∷ ss) (suc i, inside, is) = by (same_key (key s) k) (some_at k ss (i, omega (arith, inside), is))
+    where
+      by : (b : Bool) → 1 ≤ length (at k ss) → 1 ≤ length (cond b (s ∷ at k ss) (at k ss))
+      by true more = omega arith
+      by false more = more
 
   module _ {A : Type 0} (f : S → List A) where
     abbrev here_at : List S → ColumnKey → List A

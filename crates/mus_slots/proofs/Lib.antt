@@ -1,4 +1,6 @@
 pub mod ByKey
 pub mod KeysOf
+pub mod Marks
 pub mod Parts
+pub mod Plans
 pub mod Rising

@@ -1,5 +1,5 @@
 -- One walk over the slots of a voice: what holds of each kind of slot holds of all slots.
-use Rattle.std.proofs.Common.{◌≡◌, ℕ, ◌+◌, ◌-◌, ◌==◌, Bool, true, false, not, ◌&&◌, ◌||◌, if◌then◌else◌, List, [], ◌∷◌}
+use Rattle.std.proofs.Common.{◌≡◌, ℕ, ◌+◌, ◌-◌, ◌==◌, Bool, true, false, not, ◌&&◌, ◌||◌, List, [], ◌∷◌}
 use Rattle.std.proofs.Common.{◌++◌, drop, refl}
 use Rattle.std.specs.List.{AllByRecursion, slice_range}
 use Rattle.mus_units.specs.declared.note.Bar.{Bar}
