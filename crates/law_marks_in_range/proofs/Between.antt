@@ -1,5 +1,5 @@
 -- Beams and arcs that go from one of the columns of a system to a later one have ranks of such columns.
-use Rattle.std.proofs.Common.{◌≡◌, Bool, true, false, if◌then◌else◌, List, [], ◌∷◌, ◌++◌, length, map, refl}
+use Rattle.std.proofs.Common.{◌≡◌, ℕ, Bool, true, false, if◌then◌else◌, List, [], ◌∷◌, ◌++◌, length, map, refl}
 use Rattle.std.specs.List.{AllByRecursion, Contains}
 use Rattle.mus_stems.proofs.RunLaws.{all_append}
 use Rattle.mus_onsets.specs.declared.keys.ColumnKey.{ColumnKey}
@@ -7,9 +7,13 @@ use Rattle.mus_onsets.specs.Order.{is_below, key_rank}
 use Rattle.mus_onsets.proofs.RankLaws.{rank_less, rank_rises_more}
 use Rattle.mus_laid.specs.declared.drawn.Bridge.{Bridge}
 use Rattle.mus_laid.specs.declared.drawn.BridgeShape.{BridgeShape}
+use Rattle.mus_laid.specs.declared.laid.Laid.{Laid}
 use Rattle.mus_laid.specs.Ranked.{bridge_at, span_at}
 use Rattle.law_marks_in_range.specs.Ranks.{IsRanked}
-use Rattle.law_marks_in_range.proofs.Standing.{Ranked}
+
+-- `AreMarksRanked` by recursion on the marks
+abbrev pub Ranked : ℕ → List Laid → Type 0
+Ranked n all = AllByRecursion (λ laid. IsRanked n laid.mark) all
 
 module _ (keys : List ColumnKey) where
   -- from one of the columns to a later one

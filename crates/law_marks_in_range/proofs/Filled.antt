@@ -43,7 +43,7 @@ either : (xs ys : List LaneInk) → has_some (xs ++ ys) ≡ (has_some xs || has_
 either [] ys = refl
 either (x ∷ xs) ys = refl
 
-left : (xs ys : List LaneInk) → HasSome xs → HasSome (xs ++ ys)
+pub left : (xs ys : List LaneInk) → HasSome xs → HasSome (xs ++ ys)
 left [] ys h = absurd (false_not_true h)
 left (x ∷ xs) ys h = refl
 

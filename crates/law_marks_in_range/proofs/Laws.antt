@@ -1,39 +1,44 @@
 -- A system that a good score calls for can be shown.
-use Rattle.std.proofs.Common.{◌≡◌, ◌∙◌, refl, sym, ap, subst, ℕ, zero, suc, ◌<◌, ◌≤◌, true, ◌==◌, get_or, inl, inr}
-use Rattle.std.proofs.Common.{List, [], ◌∷◌, ◌++◌, length, map, Option, Some, None, arith}
+use Rattle.std.proofs.Common.{◌≡◌, ◌∙◌, refl, sym, ap, subst, ℕ, ◌<◌, ◌≤◌, true, ◌==◌, get_or, inl, inr, List, [], ◌∷◌}
+use Rattle.std.proofs.Common.{◌++◌, length, map, arith}
 use Rattle.std.proofs.lemmas.Bool.Decides.{nat_tests}
 use Rattle.std.proofs.lemmas.Grind.{flat_map-append}
 use Rattle.std.proofs.lemmas.List.{length-map}
-use Rattle.std.proofs.lemmas.List.Elements.{All-from_recursion, All-map, Contains-append_cases, Contains-append_left}
+use Rattle.std.proofs.lemmas.List.Elements.{All-from_recursion, Contains-append_cases, Contains-append_left}
 use Rattle.std.proofs.lemmas.List.Elements.{Contains-append_right, Contains-get_or, recursion_from_All}
 use Rattle.std.proofs.lemmas.List.Folds.{flat_map-map, list_any_at}
-use Rattle.std.specs.List.{AllByRecursion, Contains, cons_option, flat_map, list_any}
+use Rattle.std.specs.List.{AllByRecursion, Contains, flat_map, list_any}
 use Rattle.std.specs.Prelude.{All, IsTrue}
 use Rattle.mus_score.specs.{declared.score.Score.Score, GoodScore.IsGoodScore}
+use Rattle.mus_score.specs.declared.score.Voice.{Voice}
 use Rattle.mus_onsets.specs.declared.keys.ColumnKey.{ColumnKey}
 use Rattle.mus_onsets.specs.Keys.{head_key, voice_keys}
 use Rattle.mus_onsets.specs.Onsets.{timeline_of}
 use Rattle.mus_onsets.specs.Order.{key_rank}
-use Rattle.mus_onsets.proofs.RankLaws.{false_not_true, rank_at_place}
-use Rattle.mus_laid.specs.declared.laid.Laid.{Laid}
+use Rattle.mus_onsets.proofs.RankLaws.{rank_at_place}
 use Rattle.mus_laid.specs.declared.laid.StaffMarks.{StaffMarks}
 use Rattle.mus_laid.specs.declared.laid.SystemMarks.{SystemMarks}
-use Rattle.mus_laid.specs.Ranked.{anchor_rank, is_rank}
 use Rattle.mus_drawn.specs.declared.drawn.DrawnVoice.{DrawnVoice}
 use Rattle.mus_drawn.specs.Drawn.{drawn_voice}
 use Rattle.mus_time.proofs.Called.{staff_same}
-use Rattle.mus_time.proofs.Counts.{voice_count}
-use Rattle.mus_marks.specs.Staff.{staff_marks}
+use Rattle.mus_bridges.specs.Bridges.{bridges_of}
+use Rattle.mus_slots.specs.Voice.{slots_of_voices}
+use Rattle.mus_slots.proofs.Marks.{all_mapped}
+use Rattle.mus_marks.specs.Staff.{staff_over, verses_on}
 use Rattle.mus_marks.specs.System.{IsCall, drawn_staves, is_drawn_lower}
+use Rattle.mus_marks.proofs.Fitting.{staves_fit}
 use Rattle.mus_marks.proofs.Groups.{grouped_all, grouped_whole}
-use Rattle.mus_marks.proofs.Inside.{AreAmong, here, there, voices_called}
+use Rattle.law_slots.specs.Slotted.{slotted_staff}
+use Rattle.law_slots.proofs.Placed.{IsReady, all_ready}
+use Rattle.law_slots.proofs.Systems.{marks_are_slots}
 use Rattle.law_marks_in_range.specs.Ranks.{AreAnchored, AreMarksRanked, IsRanked, marks_ranks, staves_ranks}
 use Rattle.law_marks_in_range.specs.Shown.{IsShown}
+use Rattle.law_marks_in_range.specs.Texts.{HavePrinted}
+use Rattle.law_marks_in_range.proofs.Between.{AreBetween}
 use Rattle.law_marks_in_range.proofs.Bridged.{voices_between}
 use Rattle.law_marks_in_range.proofs.Planned.{voice_planned}
-use Rattle.law_marks_in_range.proofs.Printed.{texts_printed}
-use Rattle.law_marks_in_range.proofs.Standing.{HasRank, same_rank}
-use Rattle.law_marks_in_range.proofs.Staves.{IsInside, own_columns, staff_holds, staff_ranked}
+use Rattle.law_marks_in_range.proofs.Printed.{staves_printed}
+use Rattle.law_marks_in_range.proofs.Staves.{IsInside, all_between, own_columns, staff_holds, staff_ranked}
 
 -- what one member of a list has, others have through it
 of_each : {X K N : Type 0} (f : X → List K) (g : X → List N) (k : K) (n : N) (xs : List X)
@@ -52,29 +57,8 @@ over_groups f [] = refl
 over_groups f (g ∷ groups) =
     flat_map-append f g (flat_map (λ g. g) groups) ∙ ap (λ t. flat_map f g ++ t) (over_groups f groups)
 
--- the rank of a mark is among those of its list
-equal : (r q : ℕ) → (r == q) ≡ true → q ≡ r
-equal r q e = grind (arith, nat_tests)
-
-rank_is : (r : ℕ) (o : Option ℕ) → is_rank r o ≡ true → o ≡ Some r
-rank_is r None e = absurd (false_not_true e)
-rank_is r (Some q) e = ap Some (equal r q e)
-
-rank_held : (r : ℕ) (x : Laid) (xs : List Laid)
-    → anchor_rank x.mark ≡ Some r → Contains xs x → Contains (marks_ranks xs) r
-rank_held r x [] is (i, inside, same) = absurd (omega (arith, inside))
-rank_held r x (y ∷ xs) is (zero, inside, same) =
-    subst (λ o. Contains (cons_option o (marks_ranks xs)) r) (sym (ap (λ (l : Laid). anchor_rank l.mark) same ∙ is))
-    (here r (marks_ranks xs))
-rank_held r x (y ∷ xs) is (suc i, inside, same) =
-    by (anchor_rank y.mark) (rank_held r x xs is (i, omega (arith, inside), same))
-  where
-    by : (o : Option ℕ) → Contains (marks_ranks xs) r → Contains (cons_option o (marks_ranks xs)) r
-    by None more = more
-    by (Some q) more = there r q (marks_ranks xs) more
-
-ranks_hold : (r : ℕ) (xs : List Laid) → HasRank r xs → Contains (marks_ranks xs) r
-ranks_hold r xs h = rank_held r h.0 xs (rank_is r (anchor_rank h.0.mark) h.2) h.1
+same_rank : (r : ℕ) → (r == r) ≡ true
+same_rank r = grind (arith, nat_tests)
 
 found : (n : ℕ) (ranks : List ℕ) → Contains ranks n → IsTrue (list_any (λ r. n == r) ranks)
 found n ranks (i, inside, is) = list_any_at (λ r. n == r) ranks i n inside (ap (λ r. n == r) is ∙ same_rank n)
@@ -85,33 +69,45 @@ module _ (s : Score) (a b : ℕ) (m : SystemMarks) (good : IsGoodScore s) (rises
   lengths = (timeline_of s).lengths
 
   abbrev staff : List DrawnVoice → StaffMarks
-  staff = staff_marks m.keys lengths a b
+  staff = slotted_staff m.keys lengths a b
 
-  voices_inside : All (IsInside m.keys lengths a b) (map drawn_voice s.voices)
-  voices_inside = All-map (IsInside m.keys lengths a b) drawn_voice s.voices (λ k d inside.
-      let v = get_or s.voices k d in
-      let same = voice_count v ∙ good.measures k d inside in record {
-        long = omega (arith, within, same);
-        planned = voice_planned v;
-        among =
-            subst (λ t. AreAmong t m.keys) (staff_same lengths a b v)
-            (voices_called s lengths a b m.keys call.keys k d inside);
-        between = voices_between s a b m.keys good rises within call.keys k d inside;
-      })
+  -- the marks of its staves are those of slots
+  staves_same : m.staves ≡ map staff (drawn_staves s)
+  staves_same = call.staves ∙ marks_are_slots s (timeline_of s) a b m.keys refl good rises within call.keys
+
+  inside_all : (vs : List Voice)
+      → AllByRecursion (IsReady m.keys lengths a b) (map drawn_voice vs)
+      → AllByRecursion (IsInside m.keys lengths a b) (map drawn_voice vs)
+  inside_all [] ready = tt
+  inside_all (v ∷ vs) ready =
+      (record { slotted = ready.0.slotted; planned = voice_planned v }, inside_all vs ready.1)
 
   staves_inside : AllByRecursion (AllByRecursion (IsInside m.keys lengths a b)) (drawn_staves s)
   staves_inside =
-      let voices = map drawn_voice s.voices in
-      grouped_all is_drawn_lower (IsInside m.keys lengths a b) voices
-      (recursion_from_All (IsInside m.keys lengths a b) voices voices_inside)
+      grouped_all is_drawn_lower (IsInside m.keys lengths a b) (map drawn_voice s.voices)
+      (inside_all s.voices (all_ready s (timeline_of s) a b m.keys refl good rises within call.keys))
+
+  abbrev Bridges : DrawnVoice → Type 0
+  Bridges v = AreBetween m.keys (bridges_of lengths a b v)
+
+  staves_between : AllByRecursion (AllByRecursion Bridges) (drawn_staves s)
+  staves_between =
+      grouped_all is_drawn_lower Bridges (map drawn_voice s.voices)
+      (all_mapped Bridges drawn_voice s.voices
+      (recursion_from_All (λ v. Bridges (drawn_voice v)) s.voices
+      (voices_between s a b m.keys good rises within call.keys)))
+
+  abbrev IsRankedStaff : StaffMarks → Type 0
+  IsRankedStaff staff = AreMarksRanked (length m.keys) staff.marks
 
   each_ranked : (staves : List (List DrawnVoice))
-      → AllByRecursion (AllByRecursion (IsInside m.keys lengths a b)) staves
-      → AllByRecursion (λ (s : StaffMarks). AreMarksRanked (length m.keys) s.marks) (map staff staves)
+      → AllByRecursion (AllByRecursion Bridges) staves → AllByRecursion IsRankedStaff (map staff staves)
+  unfolding staff_over
   each_ranked [] h = tt
   each_ranked (voices ∷ staves) h = (
     All-from_recursion (λ laid. IsRanked (length m.keys) laid.mark) (staff voices).marks
-        (staff_ranked m.keys lengths a b voices rises h.0),
+        (staff_ranked m.keys (verses_on voices) (slots_of_voices 0 lengths a b voices)
+        (all_between m.keys lengths a b 0 voices h.0)),
     each_ranked staves h.1,
   )
 
@@ -120,22 +116,19 @@ module _ (s : Score) (a b : ℕ) (m : SystemMarks) (good : IsGoodScore s) (rises
       → AllByRecursion (AllByRecursion (IsInside m.keys lengths a b)) staves
       → AllByRecursion
       (λ voices.
-      Contains (flat_map (own_columns lengths a b) voices) k
+      Contains (flat_map (own_columns m.keys lengths a b) voices) k
       → Contains (marks_ranks (staff voices).marks) (key_rank m.keys k))
       staves
+  unfolding staff_over
   each_holds k inside [] h = tt
-  each_holds k inside (voices ∷ staves) h = (
-    λ has.
-        ranks_hold (key_rank m.keys k) (staff voices).marks
-        (staff_holds m.keys lengths a b voices rises h.0 k inside has),
-    each_holds k inside staves h.1,
-  )
+  each_holds k inside (voices ∷ staves) h =
+      (staff_holds m.keys lengths a b k (verses_on voices) voices h.0 inside, each_holds k inside staves h.1)
 
   -- a column that is called for is called for by a staff
   staff_calls : (k : ColumnKey)
-      → Contains m.keys k → Contains (flat_map (flat_map (own_columns lengths a b)) (drawn_staves s)) k
+      → Contains m.keys k → Contains (flat_map (flat_map (own_columns m.keys lengths a b)) (drawn_staves s)) k
   staff_calls k inside =
-      let own = own_columns lengths a b in let voices = map drawn_voice s.voices in
+      let own = own_columns m.keys lengths a b in let voices = map drawn_voice s.voices in
       subst (λ t. Contains t k) (over_groups own (drawn_staves s))
       (subst (λ t. Contains (flat_map own t) k) (sym (grouped_whole is_drawn_lower voices))
       (subst (λ t. Contains t k) (sym (flat_map-map own drawn_voice s.voices))
@@ -151,7 +144,7 @@ module _ (s : Score) (a b : ℕ) (m : SystemMarks) (good : IsGoodScore s) (rises
       found i (staves_ranks (map staff (drawn_staves s)))
       (subst (λ ns. Contains ns i) (sym (flat_map-map (λ (t : StaffMarks). marks_ranks t.marks) staff (drawn_staves s)))
       (subst (Contains (flat_map ranks (drawn_staves s))) (rank_at_place m.keys i (head_key a) call.keys.rise inside)
-      (of_each (flat_map (own_columns lengths a b)) ranks key (key_rank m.keys key) (drawn_staves s)
+      (of_each (flat_map (own_columns m.keys lengths a b)) ranks key (key_rank m.keys key) (drawn_staves s)
       (each_holds key held (drawn_staves s) staves_inside) (staff_calls key held))))
 
   staves_some : 1 ≤ length s.voices → 1 ≤ length (drawn_staves s)
@@ -168,18 +161,22 @@ module _ (s : Score) (a b : ℕ) (m : SystemMarks) (good : IsGoodScore s) (rises
 pub call_shown : (s : Score) (a b : ℕ) (m : SystemMarks)
     → IsGoodScore s → 1 ≤ length s.voices → a < b → b ≤ s.measures → IsCall s (timeline_of s) a b m → IsShown m
 call_shown s a b m good some rises within call =
-    let staff = staff_marks m.keys (timeline_of s).lengths a b in let count = length-map (drawn_staves s) staff in
+    let staff = slotted_staff m.keys (timeline_of s).lengths a b in
+    let same = staves_same s a b m good rises within call in
+    let count = length-map (drawn_staves s) staff in
     let staves = staves_some s a b m good rises within call some in record {
       rises = let from = call.from in let to = call.to in omega (arith, rises);
-      staves = subst (λ (staves : List StaffMarks). 1 ≤ length staves) (sym call.staves) (omega (arith, count, staves));
+      staves = subst (λ (staves : List StaffMarks). 1 ≤ length staves) (sym same) (omega (arith, count, staves));
       ranked =
-          subst (λ staves. All (λ (staff : StaffMarks). AreMarksRanked (length m.keys) staff.marks) staves)
-          (sym call.staves)
+          subst (All (λ (staff : StaffMarks). AreMarksRanked (length m.keys) staff.marks)) (sym same)
           (All-from_recursion (λ (staff : StaffMarks). AreMarksRanked (length m.keys) staff.marks)
           (map staff (drawn_staves s))
-          (each_ranked s a b m good rises within call (drawn_staves s) (staves_inside s a b m good rises within call)));
+          (each_ranked s a b m good rises within call (drawn_staves s)
+          (staves_between s a b m good rises within call)));
       anchored =
-          subst (λ staves. AreAnchored (length m.keys) (staves_ranks staves)) (sym call.staves)
+          subst (λ staves. AreAnchored (length m.keys) (staves_ranks staves)) (sym same)
           (staves_anchored s a b m good rises within call);
-      texts = texts_printed s (timeline_of s) a b m good call;
+      texts =
+          subst (All (λ (staff : StaffMarks). HavePrinted staff.marks)) (sym same)
+          (staves_printed m.keys (timeline_of s).lengths a b (drawn_staves s) (staves_fit s good));
     }

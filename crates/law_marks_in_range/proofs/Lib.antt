@@ -9,6 +9,5 @@ pub mod Laws
 pub mod Planned
 pub mod Printed
 pub mod PrintedTexts
-pub mod Standing
 pub mod Staves
 pub mod TitleRows

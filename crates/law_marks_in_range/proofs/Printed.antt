@@ -5,21 +5,16 @@ use Rattle.std.proofs.lemmas.List.Elements.{All-from_recursion}
 use Rattle.std.specs.List.{All, AllByRecursion}
 use Rattle.mus_units.specs.declared.key.Meter.{Meter}
 use Rattle.mus_units.specs.Good.{IsGoodMeter}
-use Rattle.mus_score.specs.declared.score.Score.{Score}
-use Rattle.mus_score.specs.GoodScore.{IsGoodScore}
 use Rattle.mus_onsets.specs.declared.keys.ColumnKey.{ColumnKey}
-use Rattle.mus_onsets.specs.declared.times.Timeline.{Timeline}
 use Rattle.mus_laid.specs.declared.drawn.BridgeShape.{BridgeShape}
 use Rattle.mus_laid.specs.declared.laid.Laid.{Laid}
 use Rattle.mus_laid.specs.declared.laid.StaffMarks.{StaffMarks}
-use Rattle.mus_laid.specs.declared.laid.SystemMarks.{SystemMarks}
 use Rattle.mus_laid.specs.Ranked.{drawn_at, span_at}
 use Rattle.mus_ink.specs.Signatures.{meter_marks}
 use Rattle.{mus_words.proofs.EachWord.{IsShown}, mus_drawn.specs.declared.drawn.DrawnVoice.{DrawnVoice}}
-use Rattle.mus_marks.specs.Staff.{staff_marks, verses_on}
-use Rattle.mus_marks.specs.System.{IsCall, drawn_staves}
-use Rattle.mus_marks.proofs.Fitting.{staves_fit}
-use Rattle.mus_marks.proofs.Parts.{FitsVoice, OfLaid, staff_all}
+use Rattle.mus_slots.proofs.Marks.{FitsVoice, OfLaid, staff_all}
+use Rattle.mus_marks.specs.Staff.{staff_over, verses_on}
+use Rattle.law_slots.specs.Slotted.{slotted_staff}
 use Rattle.law_marks_in_range.specs.Texts.{HasPrinted, HavePrinted, IsPrinted}
 use Rattle.law_marks_in_range.proofs.PrintedTexts.{digits_printed, text_printed}
 
@@ -55,21 +50,20 @@ all_good verses keys = record {
   of_bridge = λ b. span _ _ b.span;
 }
 
-staves_printed : (keys : List ColumnKey) (lengths : List ℕ) (a b : ℕ) (staves : List (List DrawnVoice))
+pub staves_printed : (keys : List ColumnKey) (lengths : List ℕ) (a b : ℕ) (staves : List (List DrawnVoice))
     → AllByRecursion (AllByRecursion FitsVoice) staves
-    → AllByRecursion (λ (staff : StaffMarks). HavePrinted staff.marks) (map (staff_marks keys lengths a b) staves)
-staves_printed keys lengths a b [] fit = tt
-staves_printed keys lengths a b (voices ∷ staves) fit =
-    let verses = verses_on voices in (
-      All-from_recursion IsGood (staff_marks keys lengths a b voices).marks
-          (staff_all verses keys IsGood (all_good verses keys) lengths a b voices (omega arith) fit.0),
-      staves_printed keys lengths a b staves fit.1,
+    → All (λ (staff : StaffMarks). HavePrinted staff.marks) (map (slotted_staff keys lengths a b) staves)
+unfolding staff_over
+staves_printed keys lengths a b staves fit = All-from_recursion _ _ (each staves fit)
+  where
+    each : (staves : List (List DrawnVoice))
+        → AllByRecursion (AllByRecursion FitsVoice) staves
+        → AllByRecursion (λ (staff : StaffMarks). HavePrinted staff.marks)
+        (map (slotted_staff keys lengths a b) staves)
+    each [] fit = tt
+    each (voices ∷ staves) fit = (
+      All-from_recursion IsGood (slotted_staff keys lengths a b voices).marks
+          (staff_all (verses_on voices) keys IsGood (all_good (verses_on voices) keys) lengths a b voices
+          (omega arith) fit.0),
+      each staves fit.1,
     )
-
-pub texts_printed : (s : Score) (t : Timeline) (a b : ℕ) (m : SystemMarks)
-    → IsGoodScore s → IsCall s t a b m → All (λ s. HavePrinted s.marks) m.staves
-texts_printed s t a b m good call =
-    subst (All (λ (staff : StaffMarks). HavePrinted staff.marks)) (sym call.staves)
-    (All-from_recursion (λ (staff : StaffMarks). HavePrinted staff.marks)
-    (map (staff_marks m.keys t.lengths a b) (drawn_staves s))
-    (staves_printed m.keys t.lengths a b (drawn_staves s) (staves_fit s good)))

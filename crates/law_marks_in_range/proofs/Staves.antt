@@ -1,104 +1,155 @@
 -- The marks of a staff are in columns of the system, and each column that its voices call for holds one.
-use Rattle.std.proofs.Common.{ℕ, ◌+◌, ◌<◌, ◌≤◌, inl, inr, List, [], ◌∷◌, ◌++◌, length, Option, Some, arith}
-use Rattle.std.proofs.lemmas.List.Elements.{Contains-append_cases}
+use Rattle.std.proofs.Common.{◌∙◌, ℕ, zero, suc, ◌+◌, ◌<◌, ◌≤◌, inl, inr, List, [], ◌∷◌, ◌++◌, length, map}
+use Rattle.std.proofs.Common.{refl, sym, subst, true, ◌==◌, arith}
+use Rattle.std.proofs.lemmas.List.{length-append}
+use Rattle.std.proofs.lemmas.List.Elements.{Contains-append_cases, Contains-append_left, Contains-append_right}
+use Rattle.std.proofs.lemmas.List.Elements.{filter_map-append}
 use Rattle.std.specs.List.{AllByRecursion, Contains, flat_map}
-use Rattle.mus_score.specs.Seats.{is_lower}
+use Rattle.std.specs.Prelude.{⊤}
 use Rattle.mus_stems.proofs.RunLaws.{all_append}
 use Rattle.mus_onsets.specs.declared.keys.ColumnKey.{ColumnKey}
-use Rattle.mus_onsets.specs.Keys.{keys_by}
-use Rattle.mus_onsets.specs.Order.{key_rank}
+use Rattle.mus_onsets.specs.Order.{key_rank, same_key}
 use Rattle.mus_onsets.proofs.RankLaws.{rank_less}
+use Rattle.mus_laid.specs.declared.drawn.Ink.{Ink}
+use Rattle.mus_laid.specs.declared.drawn.LaneInk.{LaneInk}
 use Rattle.mus_laid.specs.declared.laid.Laid.{Laid}
-use Rattle.mus_laid.specs.Ranked.{by_columns}
+use Rattle.mus_laid.specs.Ranked.{anchor_rank, drawn_at, ink_at}
+use Rattle.mus_words.specs.declared.texts.TextPlace.{TextPlace}
 use Rattle.mus_drawn.specs.declared.drawn.DrawnVoice.{DrawnVoice}
-use Rattle.mus_time.specs.Columns.{voice_columns}
+use Rattle.mus_time.specs.Columns.{staff_columns}
 use Rattle.mus_bridges.specs.Bridges.{bridges_of}
-use Rattle.mus_marks.specs.declared.events.WordRoom.{WordRoom}
-use Rattle.mus_marks.specs.declared.events.StaffRoom.{StaffRoom}
-use Rattle.mus_marks.specs.declared.events.TextCounts.{TextCounts}
-use Rattle.mus_marks.specs.Staff.{own_part, room_over, staff_bridges, staff_marks, staff_over, texts_after, verses_on}
-use Rattle.mus_marks.specs.Staff.{bare_marks, written_parts}
-use Rattle.mus_marks.proofs.Columned.{columned_all, columned_has}
-use Rattle.mus_marks.proofs.Inside.{AreAmong}
-use Rattle.law_marks_in_range.specs.Ranks.{IsRanked}
-use Rattle.law_marks_in_range.proofs.Between.{AreBetween, both, bridges_ranked}
-use Rattle.law_marks_in_range.proofs.Planned.{IsMeasureAt}
-use Rattle.law_marks_in_range.proofs.Standing.{HasRank, Ranked, columns, rank_left, rank_right}
+use Rattle.mus_slots.specs.declared.slots.Slot.{Slot}
+use Rattle.mus_slots.specs.declared.slots.VoiceSlots.{VoiceSlots}
+use Rattle.mus_slots.specs.Staff.{all_slots, bare_laid, bridges_at, column_at, column_marks, column_slots, place_after}
+use Rattle.mus_slots.specs.Staff.{place_outside, slots_at, staff_laid, written_marks}
+use Rattle.mus_slots.specs.Voice.{slots_of_voices, voice_slots}
+use Rattle.mus_slots.proofs.ByKey.{some_at}
+use Rattle.mus_slots.proofs.Marks.{all_kept, staff_each}
+use Rattle.mus_slots.proofs.Parts.{OfSlots, voice_all}
+use Rattle.law_slots.proofs.Columns.{IsSlotted}
+use Rattle.law_marks_in_range.specs.Ranks.{IsRanked, marks_ranks}
+use Rattle.law_marks_in_range.proofs.Between.{AreBetween, Ranked, both, bridges_ranked}
+use Rattle.law_marks_in_range.proofs.Filled.{HasSome, bar_some, change_has, grace_some, head_some, left, note_some}
+use Rattle.law_marks_in_range.proofs.Planned.{ArePlanned, IsPlannedEvent}
 
--- the columns that a voice calls for on its staff
-abbrev pub own_columns : List ℕ → ℕ → ℕ → DrawnVoice → List ColumnKey
-own_columns lengths a b v = keys_by (is_lower v.seat) (voice_columns lengths a b v)
+-- ---- marks in columns
+ink_ranked : (n r : ℕ) (ink : Ink) → r < n → IsRanked n (ink_at r ink)
+ink_ranked n r (Ink.Glyph glyph dx dy) less = less
+ink_ranked n r (Ink.Words size dx dy text) less = less
+ink_ranked n r (Ink.Stem dx from to) less = less
+
+column_ranked : (n r : ℕ) (ds : List LaneInk) → r < n → AllByRecursion (λ d. IsRanked n (drawn_at r d).mark) ds
+column_ranked n r [] less = tt
+column_ranked n r (d ∷ ds) less = (ink_ranked n r d.ink less, column_ranked n r ds less)
+
+pub staff_ranked : (keys : List ColumnKey) (verses : ℕ) (voices : List VoiceSlots)
+    → AreBetween keys (flat_map (λ v. v.bridges) voices) → Ranked (length keys) (staff_laid keys verses voices)
+staff_ranked keys verses voices between =
+    staff_each (λ laid. IsRanked (length keys) laid.mark) keys verses voices
+    (λ k has place. column_ranked (length keys) (key_rank keys k) _ (rank_less keys k has))
+    (bridges_ranked keys (flat_map (λ v. v.bridges) voices) between)
+
+pub all_between : (keys : List ColumnKey) (lengths : List ℕ) (a b first : ℕ) (voices : List DrawnVoice)
+    → AllByRecursion (λ v. AreBetween keys (bridges_of lengths a b v)) voices
+    → AreBetween keys (flat_map (λ v. v.bridges) (slots_of_voices first lengths a b voices))
+all_between keys lengths a b first [] h = tt
+all_between keys lengths a b first (v ∷ voices) h =
+    both keys (bridges_of lengths a b v) _ h.0 (all_between keys lengths a b (first + v.verses) voices h.1)
+
+-- ---- marks in each column
+abbrev IsFilled : Slot → Type 0
+IsFilled s = HasSome s.drawn
+
+slots_filled : (first : ℕ) (lengths : List ℕ) → OfSlots first lengths IsFilled IsPlannedEvent (λ d. ⊤)
+slots_filled first lengths = record {
+  of_head = λ a d known. head_some d.opening.clef d.opening.key.signs _;
+  of_first = λ bar. bar_some bar;
+  of_change = λ m e plan marked. change_has e.clef e.old e.flat.event.changes ∙ marked;
+  of_grace = λ m tick clef group i g. grace_some clef group (i == 0) g;
+  of_note = λ m before after e plan. note_some e.clef _ e.flat.event e.plan before after plan;
+  of_bar = λ m d known. bar_some d.bar;
+}
+
+column_some : (place : TextPlace) (ss : List Slot)
+    → 1 ≤ length ss → AllByRecursion IsFilled ss → HasSome (column_marks place ss)
+column_some place [] some filled = absurd (omega (arith, some))
+column_some place (s ∷ ss) some filled =
+    left (s.drawn ++ written_marks place s.written) (column_marks (place_after place s.written) ss)
+    (left s.drawn (written_marks place s.written) filled.0)
+
+-- the rank of a column that has a mark is among the ranks of its marks
+own_rank : (r : ℕ) (ds : List LaneInk) → HasSome ds → Contains (marks_ranks (map (drawn_at r) ds)) r
+own_rank r [] some = absurd (grind (arith, some))
+own_rank r (d ∷ ds) some = by d.ink
+  where
+    by : (ink : Ink) → Contains (marks_ranks (record { mark = ink_at r ink; lane = d.lane } ∷ map (drawn_at r) ds)) r
+    by (Ink.Glyph glyph dx dy) = (0, omega arith, refl)
+    by (Ink.Words size dx dy text) = (0, omega arith, refl)
+    by (Ink.Stem dx from to) = (0, omega arith, refl)
+
+rank_left : (r : ℕ) (xs ys : List Laid) → Contains (marks_ranks xs) r → Contains (marks_ranks (xs ++ ys)) r
+rank_left r xs ys h =
+    subst (λ t. Contains t r) (sym (filter_map-append (λ l. anchor_rank l.mark) xs ys))
+    (Contains-append_left (marks_ranks xs) (marks_ranks ys) r h)
+
+rank_right : (r : ℕ) (xs ys : List Laid) → Contains (marks_ranks ys) r → Contains (marks_ranks (xs ++ ys)) r
+rank_right r xs ys h =
+    subst (λ t. Contains t r) (sym (filter_map-append (λ l. anchor_rank l.mark) xs ys))
+    (Contains-append_right (marks_ranks xs) (marks_ranks ys) r h)
 
 module _ (keys : List ColumnKey) (lengths : List ℕ) (a b : ℕ) where
-  -- a voice whose columns are among those of the system
+  -- a voice whose columns are among those of the system, and whose stems are planned
   pub record IsInside (v : DrawnVoice) : Type 0 where
-    pub long : b ≤ length v.measures
-    pub planned : AllByRecursion (IsMeasureAt v.seat) v.measures
-    pub among : AreAmong (own_columns lengths a b v) keys
-    pub between : AreBetween keys (bridges_of lengths a b v)
+    pub slotted : IsSlotted keys lengths a b v
+    pub planned : ArePlanned v.measures
 
-  -- ---- its voices, one after the other
-  parts_ranked : (room : StaffRoom) (first : ℕ) (before : List TextCounts) (voices : List DrawnVoice)
-      → a < b → AllByRecursion IsInside voices
-      → AllByRecursion (Ranked (length keys)) (written_parts keys lengths room a b first before voices)
-  parts_ranked room first before [] order h = tt
-  parts_ranked room first before (v ∷ voices) order h =
-      let place : Option WordRoom = Some (record { room = room; first = first; before = before }) in
-      let part = own_part keys lengths place a b v in (
-        (columns keys lengths place a b v order h.0.long h.0.planned).ranked h.0.among,
-        parts_ranked room (first + v.verses) (texts_after (length keys) before part) voices order h.1,
-      )
+  abbrev pub own_columns : DrawnVoice → List ColumnKey
+  own_columns v = staff_columns true lengths a b v
 
-  parts_hold : (room : StaffRoom) (first : ℕ) (before : List TextCounts) (voices : List DrawnVoice)
-      → a < b → AllByRecursion IsInside voices
-      → (k : ColumnKey) → Contains (flat_map (own_columns lengths a b) voices) k
-      → HasRank (key_rank keys k) (flat_map (λ part. part) (written_parts keys lengths room a b first before voices))
-  parts_hold room first before [] order h k has = absurd (let inside = has.1 in omega (arith, inside))
-  parts_hold room first before (v ∷ voices) order h k has =
-      let place : Option WordRoom = Some (record { room = room; first = first; before = before }) in
-      let part = own_part keys lengths place a b v in
-      let following = texts_after (length keys) before part in
-      let more = flat_map (λ part. part) (written_parts keys lengths room a b (first + v.verses) following voices) in
-      elim (Contains-append_cases (own_columns lengths a b v) (flat_map (own_columns lengths a b) voices) k has) as
-      (λ c.
-      HasRank (key_rank keys k) (part ++ more)) [
-        | inl own ↦
-            rank_left (key_rank keys k) part more
-            ((columns keys lengths place a b v order h.0.long h.0.planned).anchored k own)
-        | inr others ↦
-            rank_right (key_rank keys k) part more
-            (parts_hold room (first + v.verses) following voices order h.1 k others)
+  abbrev at_key : ColumnKey → ℕ → List DrawnVoice → List Slot
+  at_key k first voices = column_slots k (all_slots (slots_of_voices first lengths a b voices))
+
+  slots_here : (k : ColumnKey) (first : ℕ) (voices : List DrawnVoice)
+      → AllByRecursion IsInside voices → Contains (flat_map own_columns voices) k → 1 ≤ length (at_key k first voices)
+  slots_here k first [] h (i, inside, is) = absurd (omega (arith, inside))
+  slots_here k first (v ∷ voices) h has =
+      let own = voice_slots first lengths a b v in
+      let more = at_key k (first + v.verses) voices in
+      let count = length-append (slots_at k own) more in
+      elim (Contains-append_cases (own_columns v) (flat_map own_columns voices) k has) [
+        | inl here ↦
+            let some = some_at (λ s. s.key) k own (subst (λ ks. Contains ks k) (sym (h.0.slotted.keyed first)) here) in
+            omega (arith, count, some)
+        | inr there ↦ let some = slots_here k (first + v.verses) voices h.1 there in omega (arith, count, some)
       ]
 
-  -- ---- beams and arcs
-  all_between : (voices : List DrawnVoice)
-      → AllByRecursion IsInside voices → AreBetween keys (flat_map (bridges_of lengths a b) voices)
-  all_between [] h = tt
-  all_between (v ∷ voices) h =
-      both keys (bridges_of lengths a b v) (flat_map (bridges_of lengths a b) voices) h.0.between
-      (all_between voices h.1)
+  slots_are_filled : (k : ColumnKey) (first : ℕ) (voices : List DrawnVoice)
+      → AllByRecursion IsInside voices → AllByRecursion IsFilled (at_key k first voices)
+  slots_are_filled k first [] h = tt
+  slots_are_filled k first (v ∷ voices) h =
+      all_append IsFilled (slots_at k (voice_slots first lengths a b v)) (at_key k (first + v.verses) voices)
+      (all_kept IsFilled (λ s. same_key s.key k) (voice_slots first lengths a b v)
+      (voice_all first lengths IsFilled IsPlannedEvent (λ d. ⊤) (slots_filled first lengths) a b v h.0.planned))
+      (slots_are_filled k (first + v.verses) voices h.1)
 
-  -- ---- the staff
-  abbrev parts_of : List DrawnVoice → List (List Laid)
-  parts_of voices =
-      written_parts keys lengths (room_over (verses_on voices) (bare_marks keys lengths a b voices)) a b 0 [] voices
+  along : (k : ColumnKey) (r : ℕ) (column : ColumnKey → List Laid) (ks : List ColumnKey)
+      → Contains ks k → Contains (marks_ranks (column k)) r → Contains (marks_ranks (flat_map column ks)) r
+  along k r column [] (i, inside, is) held = absurd (omega (arith, inside))
+  along k r column (l ∷ ks) (zero, inside, is) held =
+      rank_left r (column l) (flat_map column ks) (subst (λ c. Contains (marks_ranks (column c)) r) (sym is) held)
+  along k r column (l ∷ ks) (suc i, inside, is) held =
+      rank_right r (column l) (flat_map column ks) (along k r column ks (i, omega (arith, inside), is) held)
 
-  pub staff_ranked : (voices : List DrawnVoice)
-      → a < b → AllByRecursion IsInside voices → Ranked (length keys) (staff_marks keys lengths a b voices).marks
-  unfolding staff_marks staff_over
-  staff_ranked voices order h =
-      all_append (λ laid. IsRanked (length keys) laid.mark) (by_columns (length keys) (parts_of voices))
-      (staff_bridges keys lengths a b voices)
-      (columned_all (λ laid. IsRanked (length keys) laid.mark) (length keys) (parts_of voices)
-      (parts_ranked _ 0 [] voices order h))
-      (bridges_ranked keys (flat_map (bridges_of lengths a b) voices) (all_between voices h))
-
-  pub staff_holds : (voices : List DrawnVoice)
-      → a < b → AllByRecursion IsInside voices → (k : ColumnKey) → Contains keys k
-      → Contains (flat_map (own_columns lengths a b) voices) k
-      → HasRank (key_rank keys k) (staff_marks keys lengths a b voices).marks
-  unfolding staff_marks staff_over
-  staff_holds voices order h k inside has =
-      let r = key_rank keys k in let held = parts_hold _ 0 [] voices order h k has in
-      rank_left r (by_columns (length keys) (parts_of voices)) (staff_bridges keys lengths a b voices)
-      (held.0, columned_has r held.0 held.2 (length keys) (parts_of voices) (rank_less keys k inside) held.1, held.2)
+  pub staff_holds : (k : ColumnKey) (verses : ℕ) (voices : List DrawnVoice)
+      → AllByRecursion IsInside voices → Contains keys k → Contains (flat_map own_columns voices) k
+      → Contains (marks_ranks (staff_laid keys verses (slots_of_voices 0 lengths a b voices))) (key_rank keys k)
+  unfolding staff_laid
+  staff_holds k verses voices h inside has =
+      let r = key_rank keys k in
+      let slots = slots_of_voices 0 lengths a b voices in
+      let place = place_outside verses (bare_laid keys slots) in
+      let column = column_at keys place (all_slots slots) in
+      rank_left r (flat_map column keys) (bridges_at keys slots)
+      (along k r column keys inside
+      (own_rank r (column_marks place (at_key k 0 voices))
+      (column_some place (at_key k 0 voices) (slots_here k 0 voices h has) (slots_are_filled k 0 voices h))))
