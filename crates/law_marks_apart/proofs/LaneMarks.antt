@@ -9,8 +9,9 @@ use Rattle.mus_laid.specs.declared.laid.Laid.{Laid}
 use Rattle.mus_laid.specs.Ranked.{drawn_at}
 use Rattle.mus_ink.specs.Signatures.{meter_marks}
 use Rattle.mus_drawn.specs.declared.drawn.DrawnVoice.{DrawnVoice}
-use Rattle.mus_marks.specs.Staff.{staff_marks, verses_on}
-use Rattle.mus_marks.proofs.Parts.{FitsVoice, OfLaid, staff_all}
+use Rattle.mus_slots.proofs.Marks.{FitsVoice, OfLaid, staff_all}
+use Rattle.mus_marks.specs.Staff.{staff_over, verses_on}
+use Rattle.law_slots.specs.Slotted.{slotted_staff}
 use Rattle.law_marks_apart.proofs.LaneGaps.{HasLane}
 
 module _ (verses : ℕ) where
@@ -38,9 +39,11 @@ module _ (verses : ℕ) where
 -- the lane of a mark of a staff
 pub lane_of : (keys : List ColumnKey) (lengths : List ℕ) (a b : ℕ) (voices : List DrawnVoice)
     → AllByRecursion FitsVoice voices
-    → (laid : Laid) → Contains (staff_marks keys lengths a b voices).marks laid → HasLane (verses_on voices) laid.lane
+    → (laid : Laid) → Contains (slotted_staff keys lengths a b voices).marks laid → HasLane (verses_on voices) laid.lane
+unfolding staff_over
 lane_of keys lengths a b voices fit laid has =
-    let verses = verses_on voices in let all = (staff_marks keys lengths a b voices).marks in
+    let verses = verses_on voices in
+    let all = (slotted_staff keys lengths a b voices).marks in
     All-contains (IsLaned verses) all laid
     (All-from_recursion (IsLaned verses) all
     (staff_all verses keys (IsLaned verses) (all_laned verses keys) lengths a b voices (omega arith) fit))

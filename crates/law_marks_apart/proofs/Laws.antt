@@ -17,10 +17,12 @@ use Rattle.mus_laid.specs.declared.laid.SystemMarks.{SystemMarks}
 use Rattle.mus_laid.specs.Shapes.{staff_shape}
 use Rattle.mus_drawn.specs.declared.drawn.DrawnVoice.{DrawnVoice}
 use Rattle.mus_drawn.specs.Drawn.{drawn_voice}
-use Rattle.mus_marks.specs.Staff.{staff_marks, verses_on}
+use Rattle.mus_slots.proofs.Marks.{FitsVoice}
+use Rattle.mus_marks.specs.Staff.{verses_on}
 use Rattle.mus_marks.specs.System.{drawn_staves, is_drawn_lower}
 use Rattle.mus_marks.proofs.Fitting.{staves_fit}
-use Rattle.mus_marks.proofs.Parts.{FitsVoice}
+use Rattle.law_slots.specs.Slotted.{slotted_staff}
+use Rattle.law_slots.proofs.Systems.{marks_are_slots}
 use Rattle.lay_springs.specs.declared.margin.Placed.{Placed}
 use Rattle.lay_springs.specs.Place.{length_at, reach_at}
 use Rattle.lay_reaches.specs.Columns.{column_reach}
@@ -82,8 +84,9 @@ module _ (s : Score) (width a b : ℕ) (m : SystemMarks) (p : Placed) (good : Is
   one_apart : (k : ℕ) (staff : StaffMarks)
       → slice_get m.staves k ≡ Some staff → AreMarksRanked (length m.keys) staff.marks → AreApart width p.at staff.marks
   one_apart k staff at ranked =
-      let marks = staff_marks m.keys (timeline_of s).lengths a b in
-      let voices = made_of marks (drawn_staves s) k staff (ap (λ staves. slice_get staves k) (sym is.staves) ∙ at) in
+      let marks = slotted_staff m.keys (timeline_of s).lengths a b in
+      let slots = is.staves ∙ marks_are_slots s (timeline_of s) a b m.keys refl good order within is.keys in
+      let voices = made_of marks (drawn_staves s) k staff (ap (λ staves. slice_get staves k) (sym slots) ∙ at) in
       let count = verses_on voices.0 in
       let fit = good_at (AllByRecursion FitsVoice) (drawn_staves s) k voices.0
       (All-from_recursion (AllByRecursion FitsVoice) (drawn_staves s) (staves_fit s good)) voices.1 in
