@@ -3,7 +3,6 @@ pub mod Arcs
 pub mod Beams
 pub mod Between
 pub mod Bridged
-pub mod Filled
 pub mod GraceBeams
 pub mod Laws
 pub mod Planned

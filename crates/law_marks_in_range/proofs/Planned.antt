@@ -5,7 +5,6 @@ use Rattle.std.proofs.lemmas.List.{length-map, length-replicate, length-set}
 use Rattle.std.specs.List.{AllByRecursion, AllZip, slice_set}
 use Rattle.std.specs.Prelude.{⊤, replicate}
 use Rattle.mus_units.specs.{declared.note.Wish.Wish, declared.pitch.Clef.Clef}
-use Rattle.mus_score.specs.declared.score.Event.{Event}
 use Rattle.mus_score.specs.declared.score.Flat.{Flat}
 use Rattle.mus_score.specs.declared.score.Measure.{Measure}
 use Rattle.mus_score.specs.declared.score.Voice.{Voice}
@@ -18,17 +17,13 @@ use Rattle.mus_stems.specs.declared.stills.StemInput.{StemInput}
 use Rattle.mus_stems.specs.Heads.{Taken, gives_way, head_shift, shifted, shifts_of, stand_of, taken}
 use Rattle.mus_stems.specs.Plans.{plan_of, stems_of}
 use Rattle.mus_stems.specs.Stills.{clefs_from, flags_of, still_of, stills}
-use Rattle.mus_drawn.specs.declared.drawn.DrawnEvent.{DrawnEvent}
 use Rattle.mus_drawn.specs.declared.drawn.DrawnMeasure.{DrawnMeasure}
 use Rattle.mus_drawn.specs.declared.drawn.Style.{Style}
 use Rattle.mus_drawn.specs.declared.standing.StaffState.{StaffState}
 use Rattle.mus_drawn.specs.Drawn.{drawn_events, drawn_measure, drawn_measures, drawn_voice, standing_after}
 use Rattle.mus_drawn.specs.Drawn.{staff_state_after, standing_of, style_of}
+use Rattle.mus_slots.proofs.Filled.{IsPlannedEvent}
 use Rattle.mus_slots.proofs.Plans.{all_planned}
-
-pub record IsPlanOf (e : Event) (p : StemPlan) : Type 0 where
-  pub flags : p.flags ≡ flags_of e.value.base
-  pub shifts : length p.shifts ≡ length e.heads
 
 -- ---- shifts
 either_length : (b : Bool) (xs ys : List ℤ) (n : ℕ) → length xs ≡ n → length ys ≡ n → length (if b then xs else ys) ≡ n
@@ -72,9 +67,6 @@ stems_planned wish clef fs =
     (all_known (stills fs (clefs_from clef fs)))
 
 -- ---- drawn events
-abbrev pub IsPlannedEvent : DrawnEvent → Type 0
-IsPlannedEvent e = IsPlanOf e.flat.event e.plan
-
 abbrev pub ArePlanned : List DrawnMeasure → Type 0
 ArePlanned ds = AllByRecursion (λ d. ⊤ × AllByRecursion IsPlannedEvent d.events) ds
 

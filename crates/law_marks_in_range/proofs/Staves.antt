@@ -1,6 +1,6 @@
 -- The marks of a staff are in columns of the system, and each column that its voices call for holds one.
-use Rattle.std.proofs.Common.{◌∙◌, ℕ, zero, suc, ◌+◌, ◌<◌, ◌≤◌, inl, inr, List, [], ◌∷◌, ◌++◌, length, map}
-use Rattle.std.proofs.Common.{refl, sym, subst, true, ◌==◌, arith}
+use Rattle.std.proofs.Common.{ℕ, zero, suc, ◌+◌, ◌<◌, ◌≤◌, inl, inr, List, [], ◌∷◌, ◌++◌, length, map}
+use Rattle.std.proofs.Common.{refl, sym, subst, true, arith}
 use Rattle.std.proofs.lemmas.List.{length-append}
 use Rattle.std.proofs.lemmas.List.Elements.{Contains-append_cases, Contains-append_left, Contains-append_right}
 use Rattle.std.proofs.lemmas.List.Elements.{filter_map-append}
@@ -24,13 +24,13 @@ use Rattle.mus_slots.specs.Staff.{all_slots, bare_laid, bridges_at, column_at, c
 use Rattle.mus_slots.specs.Staff.{place_outside, slots_at, staff_laid, written_marks}
 use Rattle.mus_slots.specs.Voice.{slots_of_voices, voice_slots}
 use Rattle.mus_slots.proofs.ByKey.{some_at}
+use Rattle.mus_slots.proofs.Filled.{HasSome, IsFilled, IsPlannedEvent, left, slots_filled}
 use Rattle.mus_slots.proofs.Marks.{all_kept, staff_each}
-use Rattle.mus_slots.proofs.Parts.{OfSlots, voice_all}
+use Rattle.mus_slots.proofs.Parts.{voice_all}
 use Rattle.law_slots.proofs.Columns.{IsSlotted}
 use Rattle.law_marks_in_range.specs.Ranks.{IsRanked, marks_ranks}
 use Rattle.law_marks_in_range.proofs.Between.{AreBetween, Ranked, both, bridges_ranked}
-use Rattle.law_marks_in_range.proofs.Filled.{HasSome, bar_some, change_has, grace_some, head_some, left, note_some}
-use Rattle.law_marks_in_range.proofs.Planned.{ArePlanned, IsPlannedEvent}
+use Rattle.law_marks_in_range.proofs.Planned.{ArePlanned}
 
 -- ---- marks in columns
 ink_ranked : (n r : ℕ) (ink : Ink) → r < n → IsRanked n (ink_at r ink)
@@ -57,19 +57,6 @@ all_between keys lengths a b first (v ∷ voices) h =
     both keys (bridges_of lengths a b v) _ h.0 (all_between keys lengths a b (first + v.verses) voices h.1)
 
 -- ---- marks in each column
-abbrev IsFilled : Slot → Type 0
-IsFilled s = HasSome s.drawn
-
-slots_filled : (first : ℕ) (lengths : List ℕ) → OfSlots first lengths IsFilled IsPlannedEvent (λ d. ⊤)
-slots_filled first lengths = record {
-  of_head = λ a d known. head_some d.opening.clef d.opening.key.signs _;
-  of_first = λ bar. bar_some bar;
-  of_change = λ m e plan marked. change_has e.clef e.old e.flat.event.changes ∙ marked;
-  of_grace = λ m tick clef group i g. grace_some clef group (i == 0) g;
-  of_note = λ m before after e plan. note_some e.clef _ e.flat.event e.plan before after plan;
-  of_bar = λ m d known. bar_some d.bar;
-}
-
 column_some : (place : TextPlace) (ss : List Slot)
     → 1 ≤ length ss → AllByRecursion IsFilled ss → HasSome (column_marks place ss)
 column_some place [] some filled = absurd (omega (arith, some))

@@ -45,7 +45,7 @@ same_class k l h = grind (arith, nat_tests)
 same_parts : (m n t u : ℕ) (c d : Class) (p q : ℕ) → m ≡ n → t ≡ u → c ≡ d → p ≡ q → key_at m t c p ≡ key_at n u d q
 same_parts m n t u c d p q e f g h = rw (e, f, g, h) refl
 
-is_same : (k l : ColumnKey) → same_key k l ≡ true → k ≡ l
+pub is_same : (k l : ColumnKey) → same_key k l ≡ true → k ≡ l
 unfolding same_key
 is_same k l h =
     same_parts k.measure l.measure k.tick l.tick k.class l.class k.place l.place (grind (arith, nat_tests))

@@ -1,4 +1,5 @@
 pub mod ByKey
+pub mod Filled
 pub mod KeysOf
 pub mod Marks
 pub mod Parts

@@ -48,7 +48,7 @@ all_rise k (l ∷ ls) h =
     let more = all_rise l ls h.1 in ((h.0, below_more k l ls h.0 more.0), (more.0, more.1))
 
 -- ---- keys in the order of their measures, ticks and classes
-class_below : (m n t u i j : ℕ) (c d : Class)
+pub class_below : (m n t u i j : ℕ) (c d : Class)
     → m ≤ n → (m ≡ n → t ≤ u) → class_number c < class_number d → is_below (key_at m t c i) (key_at n u d j) ≡ true
 unfolding is_below
 class_below m n t u i j c d le later classes = grind (arith, nat_tests, le, later, classes)

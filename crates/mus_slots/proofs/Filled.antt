@@ -1,7 +1,8 @@
--- Everything that is called for is drawn: an event, a grace, a bar and a head have a mark, and a change has one
--- exactly when it changes what is drawn.
-use Rattle.std.proofs.Common.{◌≡◌, ◌∙◌, ℕ, zero, suc, ℤ, ◌+◌, ◌*◌, ◌≤◌, Bool, true, false, ◌||◌, nat_le, List, [], ◌∷◌}
-use Rattle.std.proofs.Common.{◌++◌, length, Option, Some, None, is_some, refl, ap, arith}
+-- Each slot of a voice has a mark: an event, a grace, a bar and a head have one, and a change has one exactly when it
+-- changes what is drawn.
+use Rattle.std.proofs.Common.{◌≡◌, ◌∙◌, ℕ, zero, suc, ℤ, ◌+◌, ◌*◌, ◌≤◌, Bool, true, false, ◌||◌, ◌==◌, nat_le, List, []}
+use Rattle.std.proofs.Common.{◌∷◌, ◌++◌, length, Option, Some, None, is_some, refl, sym, ap, arith}
+use Rattle.std.specs.Prelude.{⊤}
 use Rattle.std.proofs.lemmas.Bool.Decides.{nat_tests}
 use Rattle.mus_units.specs.declared.glyph.Glyph.{Glyph}
 use Rattle.mus_units.specs.declared.key.Key.{Key}
@@ -30,9 +31,16 @@ use Rattle.mus_ink.specs.Notes.{dot_marks, heads_marks, ledger_marks, note_heads
 use Rattle.mus_ink.specs.Rests.{rest_dots, rest_glyphs, rest_marks, short_rests}
 use Rattle.mus_ink.specs.Signatures.{meter_if, meter_marks}
 use Rattle.mus_ink.specs.Stems.{stem_marks}
-use Rattle.law_marks_in_range.proofs.Planned.{IsPlanOf}
+use Rattle.mus_drawn.specs.declared.drawn.DrawnEvent.{DrawnEvent}
+use Rattle.mus_slots.specs.declared.slots.Slot.{Slot}
+use Rattle.mus_slots.proofs.Parts.{OfSlots}
 
-abbrev pub has_some : List LaneInk → Bool
+-- a plan that has the flags of its event, and a shift for each of its heads
+pub record IsPlanOf (e : Event) (p : StemPlan) : Type 0 where
+  pub flags : p.flags ≡ flags_of e.value.base
+  pub shifts : length p.shifts ≡ length e.heads
+
+abbrev has_some : List LaneInk → Bool
 has_some [] = false
 has_some (x ∷ xs) = true
 
@@ -52,11 +60,11 @@ right [] ys h = h
 right (x ∷ xs) ys h = refl
 
 -- ---- heads of staves and bars
-pub head_some : (c : Clef) (ss : List Sign) (m : Option Meter) → HasSome (head_marks c ss m)
+head_some : (c : Clef) (ss : List Sign) (m : Option Meter) → HasSome (head_marks c ss m)
 unfolding head_marks
 head_some c ss m = refl
 
-pub bar_some : (b : Bar) → HasSome (bar_marks b)
+bar_some : (b : Bar) → HasSome (bar_marks b)
 unfolding bar_marks
 bar_some b = refl
 
@@ -84,7 +92,7 @@ meter_has dx (Some Meter.Common) = refl
 meter_has dx (Some Meter.Cut) = refl
 meter_has dx (Some (Meter.Ratio num den)) = refl
 
-pub change_has : (c : Clef) (old : List Sign) (ch : Changes)
+change_has : (c : Clef) (old : List Sign) (ch : Changes)
     → has_some (change_marks c old ch) ≡ change_has_mark (nat_le 1 (length old)) ch
 unfolding change_marks
 change_has c old ch =
@@ -97,6 +105,14 @@ change_has c old ch =
       key_has c (x + entry_gap) old ch.key,
       meter_has (x + entry_step * count_if old ch.key) ch.meter,
     ) refl
+
+none_of : (xs : List LaneInk) → has_some xs ≡ false → xs ≡ []
+none_of [] e = refl
+none_of (x ∷ xs) e = absurd (false_not_true (sym e))
+
+pub no_marks : (c : Clef) (old : List Sign) (ch : Changes)
+    → change_has_mark (nat_le 1 (length old)) ch ≡ false → change_marks c old ch ≡ []
+no_marks c old ch e = none_of (change_marks c old ch) (change_has c old ch ∙ e)
 
 -- ---- events
 shorts_some : (g : Glyph) (top : ℤ) (n : ℕ) → 1 ≤ n → HasSome (short_rests g top 0 n)
@@ -140,7 +156,7 @@ body_some c raise (h ∷ hs) e p before after flags shifts =
     left (heads_marks c e.value.base (h ∷ hs) p) (stem_marks p before after)
     (all_heads_some c e.value.base h hs p shifts)
 
-pub note_some : (c : Clef) (raise : ℤ) (e : Event) (p : StemPlan) (before after : ℕ)
+note_some : (c : Clef) (raise : ℤ) (e : Event) (p : StemPlan) (before after : ℕ)
     → IsPlanOf e p → HasSome (note_marks c raise e p before after)
 unfolding note_marks
 note_some c raise e p before after plan =
@@ -148,6 +164,23 @@ note_some c raise e p before after plan =
     (body_some c raise e.heads e p before after plan.flags plan.shifts)
 
 -- a grace has a stem
-pub grace_some : (c : Clef) (group : Group) (first : Bool) (g : Event) → HasSome (grace_marks c group first g)
+grace_some : (c : Clef) (group : Group) (first : Bool) (g : Event) → HasSome (grace_marks c group first g)
 unfolding grace_marks
 grace_some c group first g = left _ _ (right (grace_body c g.heads) _ refl)
+
+-- ---- slots
+abbrev pub IsFilled : Slot → Type 0
+IsFilled s = HasSome s.drawn
+
+abbrev pub IsPlannedEvent : DrawnEvent → Type 0
+IsPlannedEvent e = IsPlanOf e.flat.event e.plan
+
+pub slots_filled : (first : ℕ) (lengths : List ℕ) → OfSlots first lengths IsFilled IsPlannedEvent (λ d. ⊤)
+slots_filled first lengths = record {
+  of_head = λ a d known. head_some d.opening.clef d.opening.key.signs _;
+  of_first = λ bar. bar_some bar;
+  of_change = λ m e plan marked. change_has e.clef e.old e.flat.event.changes ∙ marked;
+  of_grace = λ m tick clef group i g. grace_some clef group (i == 0) g;
+  of_note = λ m before after e plan. note_some e.clef _ e.flat.event e.plan before after plan;
+  of_bar = λ m d known. bar_some d.bar;
+}
