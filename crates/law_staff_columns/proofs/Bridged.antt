@@ -29,7 +29,8 @@ use Rattle.mus_bridges.specs.Arcs.{arc_between, arc_in, arcs_between, piece_betw
 use Rattle.mus_bridges.specs.Beams.{beam_marks, beams_at, beams_from, level_from, levels_from}
 use Rattle.mus_bridges.specs.declared.stems.BeamStem.{BeamStem}
 use Rattle.mus_bridges.specs.Bridges.{beam_over, beams_between, bridges_of, event_grace_beam, grace_beams_between}
-use Rattle.mus_marks.specs.Staff.{staff_bridges}
+use Rattle.mus_slots.specs.Staff.{bridges_at}
+use Rattle.mus_slots.specs.Voice.{slots_of_voices}
 use Rattle.ps_heard.specs.Columns.{bulges_as_tie}
 use Rattle.law_voice_sound.specs.Columns.{height_if, tie_heights}
 use Rattle.law_staff_columns.specs.Ranked.{tied_at, tie_ends_at}
@@ -93,7 +94,7 @@ module _ (keys : List ColumnKey) (r : ℕ) where
         flat_map-append ends (arc_in lengths a b ds x) (arcs_between lengths a b ds xs) ∙ grind (arith, slur, more)
 
   pub bridges_known : (lengths : List ℕ) (a b : ℕ) (v : DrawnVoice)
-      → tie_ends_at (staff_bridges keys lengths a b (v ∷ [])) r
+      → tie_ends_at (bridges_at keys (slots_of_voices 0 lengths a b (v ∷ []))) r
       ≡ flat_map (arc_ends lengths a b v.measures) (filter (λ x. x.tie) v.arcs)
   bridges_known lengths a b v =
       flat_map-map (λ l. tied_at r l.mark) (bridge_at keys) (bridges_of lengths a b v ++ [])

@@ -1,11 +1,11 @@
 -- The drawn measures of a voice, tilted or not, come from the score's, and their events have columns in its system.
-use Rattle.std.proofs.Common.{◌≡◌, Bool, refl, sym, ap, subst, ◌∙◌, zero, suc, ◌+◌, ◌≤◌, ◌<◌, ◌++◌, map, false, Some}
+use Rattle.std.proofs.Common.{◌≡◌, Bool, refl, sym, ap, subst, ◌∙◌, zero, suc, ◌+◌, ◌≤◌, ◌<◌, map, false, Some}
 use Rattle.std.proofs.Common.{arith}
 use Rattle.std.proofs.lemmas.List.{length-map}
 use Rattle.std.proofs.lemmas.List.Elements.{All-contains, recursion_from_All}
 use Rattle.std.proofs.lemmas.Simd.{map-map}
 use Rattle.std.specs.Prelude.{ℕ, ℤ, List, [], ◌∷◌, take, drop, slice_get, slice_range}
-use Rattle.std.specs.List.{AllByRecursion, AllZip, Contains, flat_map}
+use Rattle.std.specs.List.{AllByRecursion, AllZip, Contains}
 use Rattle.mus_score.specs.declared.score.Flat.{Flat}
 use Rattle.mus_score.specs.declared.score.Measure.{Measure}
 use Rattle.mus_score.specs.declared.score.Score.{Score}
@@ -19,15 +19,12 @@ use Rattle.mus_stems.specs.declared.plans.StemPlan.{StemPlan}
 use Rattle.mus_stems.specs.declared.stills.StemInput.{StemInput}
 use Rattle.mus_stems.specs.Columns.{AreInColumns}
 use Rattle.mus_stems.specs.Displaced.{AreDisplaced}
-use Rattle.mus_stems.specs.Ends.{run_end, stands_up}
 use Rattle.mus_stems.specs.Heads.{AllNear, stand_of}
 use Rattle.mus_stems.specs.Signs.{first_sign}
 use Rattle.mus_stems.specs.Stills.{clefs_from, still_of, stills}
-use Rattle.mus_stems.specs.Beams.{beams, is_joined}
-use Rattle.mus_stems.specs.Plans.{first_event_id, plan_of, plans_along, plans_of_runs, run_plans, stems_of}
+use Rattle.mus_stems.specs.Plans.{plan_of, stems_of}
 use Rattle.mus_stems.proofs.ColumnLaws.{signs_in_columns}
 use Rattle.mus_stems.proofs.DisplacedLaws.{shifts_displace}
-use Rattle.mus_stems.proofs.RunLaws.{all_in_runs, runs_are_maximal}
 use Rattle.mus_units.specs.declared.note.Wish.{Wish}
 use Rattle.mus_units.specs.declared.pitch.Clef.{Clef}
 use Rattle.mus_drawn.specs.declared.drawn.DrawnEvent.{DrawnEvent}
@@ -37,6 +34,7 @@ use Rattle.mus_drawn.specs.declared.standing.StaffState.{StaffState}
 use Rattle.mus_drawn.specs.Drawn.{drawn_events, drawn_measure, drawn_measures, drawn_voice, opening_of, standing_after}
 use Rattle.mus_drawn.specs.Drawn.{staff_state_after, standing_of, style_of}
 use Rattle.mus_drawn.proofs.Reaches.{near_of, reach_cut}
+use Rattle.mus_slots.proofs.Plans.{all_planned}
 use Rattle.mus_marks.specs.Tilt.{sloped_over, voice_tilted}
 use Rattle.mus_marks.proofs.Ending.{flat_event, flat_measure, flat_voice}
 use Rattle.mus_marks.proofs.GoingOn.{AllGoOn, GoOn, voice_goes_on}
@@ -49,24 +47,10 @@ use Rattle.law_staff_columns.proofs.Signed.{heads_shifted, signs_placed}
 HasPlaces : StemInput → StemPlan → Type 0
 HasPlaces e p = AreDisplaced p.up e.stands p.shifts × AreInColumns (first_sign p.shifts) e.stands p.signs
 
-along_placed : (up : Bool) (to : ℤ) (group : ℕ) (es more : List StemInput) (ps : List StemPlan)
-    → AllByRecursion (λ e. AllNear e.stands) es → AllZip HasPlaces more ps
-    → AllZip HasPlaces (es ++ more) (plans_along up to group es ++ ps)
+plan_placed : (up : Bool) (to : ℤ) (group : ℕ) (e : StemInput)
+    → AllNear e.stands → HasPlaces e (plan_of up to group e)
 unfolding plan_of HasPlaces
-along_placed up to group [] more ps near placed = placed
-along_placed up to group (e ∷ es) more ps near placed = (
-  (shifts_displace up e.stands near.0, signs_in_columns _ e.stands near.0),
-  along_placed up to group es more ps near.1 placed,
-)
-
-runs_placed : (wish : Wish) (rs : List (List StemInput))
-    → AllByRecursion (AllByRecursion (λ e. AllNear e.stands)) rs
-    → AllZip HasPlaces (flat_map (λ r. r) rs) (plans_of_runs wish rs)
-unfolding run_plans
-runs_placed wish [] near = tt
-runs_placed wish (r ∷ rs) near =
-    along_placed (stands_up wish r) (run_end (stands_up wish r) r) (first_event_id r) r _ _ near.0
-    (runs_placed wish rs near.1)
+plan_placed up to group e near = (shifts_displace up e.stands near, signs_in_columns _ e.stands near)
 
 stills_near : (clef : Clef) (fs : List Flat)
     → AreInReach clef fs → AllByRecursion (λ e. AllNear e.stands) (stills fs (clefs_from clef fs))
@@ -77,12 +61,8 @@ stills_near clef (f ∷ fs) reach =
 
 stems_placed : (wish : Wish) (clef : Clef) (fs : List Flat)
     → AreInReach clef fs → AllZip HasPlaces (stills fs (clefs_from clef fs)) (stems_of wish fs (clefs_from clef fs))
-unfolding stems_of
 stems_placed wish clef fs reach =
-    let es = stills fs (clefs_from clef fs) in
-    let runs = all_in_runs (λ e. AllNear e.stands) is_joined es (stills_near clef fs reach) in
-    subst (λ ds. AllZip HasPlaces ds (plans_of_runs wish (beams es))) (runs_are_maximal is_joined es).whole
-    (runs_placed wish (beams es) runs)
+    all_planned (λ e. AllNear e.stands) HasPlaces plan_placed wish fs (clefs_from clef fs) (stills_near clef fs reach)
 
 -- ---- measures as they are drawn, all ends at 0
 events_drawn : (style : Style) (tick : ℕ) (now : StaffState) (fs : List Flat) (ps : List StemPlan)

@@ -4,8 +4,6 @@ mod Drawings
 mod Forms
 mod Noting
 mod Placed
-mod Rising
 mod Signed
-mod Slots
 pub mod Telling
 mod Tied

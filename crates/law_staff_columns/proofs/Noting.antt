@@ -2,8 +2,8 @@
 use Rattle.std.proofs.Common.{◌≡◌, refl, ℕ, zero, suc, ◌+◌, ◌*◌, ◌++◌, arith}
 use Rattle.std.proofs.lemmas.Grind.{flat_map-append}
 use Rattle.std.proofs.lemmas.List.{append-nil}
-use Rattle.std.specs.Prelude.{⊤, ℤ, pos, Bool, true, false, List, [], ◌∷◌, Option, Some, None, length, slice_index_or}
-use Rattle.std.specs.List.{All, AllByRecursion}
+use Rattle.std.specs.Prelude.{ℤ, pos, Bool, true, false, List, [], ◌∷◌, Option, Some, None, length}
+use Rattle.std.specs.List.{All}
 use Rattle.mus_units.specs.declared.glyph.Glyph.{Glyph}
 use Rattle.mus_units.specs.declared.key.Meter.{Meter}
 use Rattle.mus_units.specs.declared.key.Sign.{Sign}
@@ -16,7 +16,6 @@ use Rattle.mus_units.specs.declared.pitch.Clef.{Clef}
 use Rattle.mus_units.specs.declared.value.Base.{Base}
 use Rattle.mus_score.specs.declared.score.Changes.{Changes}
 use Rattle.mus_score.specs.declared.score.Event.{Event}
-use Rattle.mus_score.specs.declared.score.Flat.{Flat}
 use Rattle.mus_score.specs.declared.score.Look.{Look}
 use Rattle.mus_score.specs.GoodScore.{IsInReach}
 use Rattle.mus_stems.specs.declared.dots.Spot.{Spot}
@@ -34,18 +33,19 @@ use Rattle.mus_ink.specs.Notes.{dot_marks, heads_marks, ledger_marks, note_heads
 use Rattle.mus_ink.specs.Rests.{rest_dots, rest_marks, short_rests}
 use Rattle.mus_ink.specs.Signatures.{entry_mark, entry_marks, meter_if, meter_marks}
 use Rattle.mus_ink.specs.Stems.{flag_marks, flags_or_stubs, stem_marks, stub_marks}
-use Rattle.mus_words.proofs.EachWord.{syllables_all, texts_all, OfWords}
+use Rattle.mus_words.specs.declared.texts.TextPlace.{TextPlace}
+use Rattle.mus_words.specs.Syllables.{syllables_from}
+use Rattle.mus_words.specs.Texts.{above_from, below_from}
 use Rattle.mus_drawn.specs.Drawn.{old_signs}
 use Rattle.mus_drawn.proofs.Reaches.{near_of}
-use Rattle.mus_marks.specs.declared.events.WordRoom.{WordRoom}
-use Rattle.mus_marks.specs.Events.{no_texts, text_place, words_marks}
+use Rattle.mus_slots.specs.declared.slots.Written.{Written}
+use Rattle.mus_slots.specs.Staff.{written_marks}
 use Rattle.ps_heard.specs.declared.column.Role.{Role}
 use Rattle.ps_heard.specs.Columns.{noted}
 use Rattle.ps_heard.specs.Roles.{role_of}
 use Rattle.law_voice_sound.specs.Noted.{bar_notes, change_notes, change_signs, clef_note, entry_notes}
 use Rattle.law_voice_sound.specs.Noted.{head_column_notes, head_notes, naturals, new_signs, note, sign_notes}
-use Rattle.mus_laid.specs.declared.drawn.LaneInk.{LaneInk}
-use Rattle.law_staff_columns.proofs.Forms.{AreShifted, AreSigned, drawn_notes, ink_notes}
+use Rattle.law_staff_columns.proofs.Forms.{AreShifted, AreSigned, drawn_notes}
 use Rattle.law_staff_columns.proofs.Signed.{signs_placed}
 
 -- ---- parts that say nothing
@@ -97,24 +97,21 @@ glyph_quiet : (b : Bool) (g : Glyph) → noted (role_of g (pos 0)) (pos 0) ≡ [
 glyph_quiet b g quiet = grind (arith, quiet)
 
 -- syllables and texts
-all_quiet : (ds : List LaneInk) → AllByRecursion (λ d. ink_notes d.ink ≡ []) ds → drawn_notes ds ≡ []
-all_quiet [] quiet = refl
-all_quiet (d ∷ ds) quiet = simp (quiet.0, all_quiet ds quiet.1)
+syllables_quiet : (low : ℤ) (n : ℕ) (ws : List (Option (List ℕ))) → drawn_notes (syllables_from low n ws) ≡ []
+syllables_quiet low n [] = refl
+syllables_quiet low n (None ∷ ws) = syllables_quiet low (n + 1) ws
+syllables_quiet low n (Some t ∷ ws) = grind (arith, flat_map-append, syllables_quiet low (n + 1) ws)
 
-words_quiet : OfWords (λ n. ⊤) (λ d. ink_notes d.ink ≡ [])
-words_quiet =
-    record { of_syllable = λ low n t verse shown. refl; of_above = λ dy t shown. refl; of_below = λ dy t shown. refl }
+above_quiet : (high : ℤ) (k : ℕ) (ts : List (List ℕ)) → drawn_notes (above_from high k ts) ≡ []
+above_quiet high k [] = refl
+above_quiet high k (t ∷ ts) = above_quiet high (k + 1) ts
 
-pub words_known : (place : Option WordRoom) (r : ℕ) (f : Flat) → drawn_notes (words_marks place r f) ≡ []
-words_known None r f = refl
-words_known (Some place) r f =
-    let syllables = all_quiet _
-    (syllables_all (λ n. ⊤) (λ d. ink_notes d.ink ≡ []) words_quiet place.room.low place.first f.event.words
-    (λ i inside. tt)) in
-    let texts = all_quiet _
-    (texts_all (λ n. ⊤) (λ d. ink_notes d.ink ≡ []) words_quiet
-    (text_place place.room (slice_index_or place.before r no_texts)) f) in
-    simp (flat_map-append, syllables, texts)
+below_quiet : (low : ℤ) (verses k : ℕ) (ts : List (List ℕ)) → drawn_notes (below_from low verses k ts) ≡ []
+below_quiet low verses k [] = refl
+below_quiet low verses k (t ∷ ts) = below_quiet low verses (k + 1) ts
+
+pub written_quiet : (place : TextPlace) (w : Written) → drawn_notes (written_marks place w) ≡ []
+written_quiet place w = simp (flat_map-append, syllables_quiet, above_quiet, below_quiet)
 
 -- ---- clefs and entries
 clef_known : (c : Clef)

@@ -21,8 +21,8 @@ use Rattle.mus_drawn.specs.declared.drawn.DrawnMeasure.{DrawnMeasure}
 use Rattle.mus_drawn.specs.declared.standing.StaffState.{StaffState}
 use Rattle.mus_drawn.specs.Drawn.{staff_state_after}
 use Rattle.mus_onsets.proofs.Orders.{below_through, lower}
+use Rattle.mus_slots.proofs.Rising.{class_below}
 use Rattle.mus_marks.proofs.GoingOn.{later_below}
-use Rattle.law_staff_columns.proofs.Rising.{class_below}
 use Rattle.mus_time.specs.Columns.{note_key}
 use Rattle.mus_bridges.specs.Arcs.{event_at, event_in, has_id}
 use Rattle.law_staff_columns.proofs.Forms.{AreSeated, MeasuresDrawn, flats_in}

@@ -32,7 +32,9 @@ use Rattle.mus_drawn.specs.declared.drawn.DrawnVoice.{DrawnVoice}
 use Rattle.mus_drawn.specs.declared.standing.StaffState.{StaffState}
 use Rattle.mus_drawn.specs.Drawn.{staff_state_after, standing_of}
 use Rattle.mus_bridges.specs.Arcs.{piece_between}
-use Rattle.mus_marks.specs.Staff.{staff_bridges}
+use Rattle.mus_slots.specs.Staff.{bridges_at}
+use Rattle.mus_slots.specs.Voice.{slots_of_voices}
+use Rattle.mus_slots.proofs.Rising.{class_below}
 use Rattle.law_voice_sound.specs.Columns.{last_event, last_through, tie_heights}
 use Rattle.law_staff_columns.specs.Ranked.{tie_ends_at}
 use Rattle.law_staff_columns.proofs.Forms.{MeasuresDrawn, flats_in}
@@ -40,7 +42,6 @@ use Rattle.law_staff_columns.proofs.Bridged.{arc_ends, bridges_known, ends, is_t
 use Rattle.law_staff_columns.proofs.Bridged.{ties_here}
 use Rattle.law_staff_columns.proofs.Placed.{GoFrom, IsPlaced, Placed, all_placed}
 use Rattle.law_staff_columns.proofs.Placed.{heads, key, measures_go, measures_scored, placed, scored}
-use Rattle.law_staff_columns.proofs.Rising.{class_below}
 
 -- ---- in a row of events
 module _ (keys : List ColumnKey) (a b : ℕ) where
@@ -205,12 +206,12 @@ module _ (keys : List ColumnKey) (lengths : List ℕ) (a b : ℕ) (ds : List Dra
 pub ties_stand : (s : Score) (v : Voice) (keys : List ColumnKey) (a b : ℕ) (w : DrawnVoice)
     → w.arcs ≡ arcs_of (events_of_voice v) → All (IsInSystem (timeline_of s).lengths a b) keys
     → MeasuresDrawn keys a b 0 (standing_of v) v.measures w.measures
-    → AllTied keys a b (tie_ends_at (staff_bridges keys (timeline_of s).lengths a b (w ∷ [])))
+    → AllTied keys a b (tie_ends_at (bridges_at keys (slots_of_voices 0 (timeline_of s).lengths a b (w ∷ []))))
     (last_through [] (take a v.measures)) (all_placed a (drop a w.measures))
 ties_stand s v keys a b w arcs places drawn =
     let lengths = (timeline_of s).lengths in
     let ds = w.measures in
-    let ties = tie_ends_at (staff_bridges keys lengths a b (w ∷ [])) in
+    let ties = tie_ends_at (bridges_at keys (slots_of_voices 0 lengths a b (w ∷ []))) in
     let go = measures_go keys a b ds 0 (standing_of v) v.measures ds drawn
     (λ k n d same is. subst (λ i. slice_get ds i ≡ Some d) (omega (arith, same)) is) in
     let own = ap (filter (λ x. x.tie)) arcs
