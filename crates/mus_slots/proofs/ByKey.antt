@@ -67,6 +67,33 @@ rank_same keys k l has own = by (is_below k l) (is_below l k) refl refl
         let same = same_unless_below k l e f in
         eq-eqb (key_rank keys k) (key_rank keys l) (ap (key_rank keys) (sym (is_same l k same))) ∙ sym same
 
+-- ---- keys that rise
+pub below_in : (k l : ColumnKey) (ls : List ColumnKey) → BelowAll k ls → Contains ls l → is_below k l ≡ true
+below_in k l [] below (i, inside, is) = absurd (omega (arith, inside))
+below_in k l (m ∷ ls) below (zero, inside, is) = subst (λ x. is_below k x ≡ true) is below.0
+below_in k l (m ∷ ls) below (suc i, inside, is) = below_in k l ls below.1 (i, omega (arith, inside), is)
+
+no_key_below : (k : ColumnKey) (ls : List ColumnKey) → BelowAll k ls → filter (λ l. same_key l k) ls ≡ []
+no_key_below k [] below = refl
+no_key_below k (l ∷ ls) below =
+    ap (λ b. cond b (l ∷ filter (λ l. same_key l k) ls) (filter (λ l. same_key l k) ls)) (below_differs k l below.0)
+    ∙ no_key_below k ls below.1
+
+-- have each of their keys once
+pub once : (k : ColumnKey) (ls : List ColumnKey)
+    → Rises ls → Contains ls k → filter (λ l. same_key l k) ls ≡ k ∷ []
+once k [] rise (i, inside, is) = absurd (omega (arith, inside))
+once k (l ∷ ls) rise (zero, inside, is) =
+    ap (λ b. cond b (l ∷ filter (λ l. same_key l k) ls) (filter (λ l. same_key l k) ls))
+    (ap (λ z. same_key z k) is ∙ same_itself k)
+    ∙ ap (λ t. l ∷ t) (no_key_below k ls (subst (λ z. BelowAll z ls) is rise.0))
+    ∙ ap (λ z. z ∷ []) is
+once k (l ∷ ls) rise (suc i, inside, is) =
+    let has : Contains ls k = (i, omega (arith, inside), is) in
+    ap (λ b. cond b (l ∷ filter (λ l. same_key l k) ls) (filter (λ l. same_key l k) ls))
+    (above_differs l k (below_in l k ls rise.0 has))
+    ∙ once k ls rise.1 has
+
 -- ---- along the keys of a system
 pub along : {A : Type 0} (f : ℕ → List A) (g : ColumnKey → List A) (ks : List ColumnKey) (r : ℕ)
     → ((i : ℕ) (d : ColumnKey) → i < length ks → f (r + i) ≡ g (slice_index_or ks i d))
@@ -99,6 +126,34 @@ module _ {S : Type 0} (key : S → ColumnKey) where
   none_at k [] below = refl
   none_at k (s ∷ ss) below =
       ap (λ b. cond b (s ∷ at k ss) (at k ss)) (below_differs k (key s) below.0) ∙ none_at k ss below.1
+
+  none_unlike : (k : ColumnKey) (ss : List S) → AllByRecursion (λ s. same_key (key s) k ≡ false) ss → at k ss ≡ []
+  none_unlike k [] unlike = refl
+  none_unlike k (s ∷ ss) unlike =
+      ap (λ b. cond b (s ∷ at k ss) (at k ss)) unlike.0 ∙ none_unlike k ss unlike.1
+
+  -- things before a key, then others
+  pub at_after : (k : ColumnKey) (ss ts : List S)
+      → AllByRecursion (λ s. is_below (key s) k ≡ true) ss → at k (ss ++ ts) ≡ at k ts
+  at_after k ss ts before =
+      filter-append (λ s. same_key (key s) k) ss ts ∙ ap (λ t. t ++ at k ts) (none_unlike k ss (by ss before))
+    where
+      by : (ss : List S)
+          → AllByRecursion (λ s. is_below (key s) k ≡ true) ss → AllByRecursion (λ s. same_key (key s) k ≡ false) ss
+      by [] before = tt
+      by (s ∷ ss) before = (above_differs (key s) k before.0, by ss before.1)
+
+  -- things, then others after a key
+  pub at_before : (k : ColumnKey) (ss ts : List S)
+      → AllByRecursion (λ t. is_below k (key t) ≡ true) ts → at k (ss ++ ts) ≡ at k ss
+  at_before k ss ts past =
+      filter-append (λ s. same_key (key s) k) ss ts
+      ∙ ap (λ t. at k ss ++ t) (none_unlike k ts (by ts past)) ∙ append-nil (at k ss)
+    where
+      by : (ts : List S)
+          → AllByRecursion (λ t. is_below k (key t) ≡ true) ts → AllByRecursion (λ t. same_key (key t) k ≡ false) ts
+      by [] past = tt
+      by (t ∷ ts) past = (below_differs k (key t) past.0, by ts past.1)
 
   pub one_at : (k : ColumnKey) (ss : List S) → Rises (map key ss) → AtMostOne k (at k ss)
   one_at k [] rise = inl refl
@@ -150,11 +205,6 @@ module _ {S : Type 0} (key : S → ColumnKey) where
         by (zero, inside, is) =
             absurd (false_not_true (sym (not_itself k) ∙ subst (λ l. is_below k l ≡ true) (sym is) below.0))
         by (suc i, inside, is) = (i, omega (arith, inside), is)
-
-    below_in : (k l : ColumnKey) (ls : List ColumnKey) → BelowAll k ls → Contains ls l → is_below k l ≡ true
-    below_in k l [] below (i, inside, is) = absurd (omega (arith, inside))
-    below_in k l (m ∷ ls) below (zero, inside, is) = subst (λ x. is_below k x ≡ true) is below.0
-    below_in k l (m ∷ ls) below (suc i, inside, is) = below_in k l ls below.1 (i, omega (arith, inside), is)
 
     below_rest : (k l : ColumnKey) (ls : List ColumnKey) → is_below k l ≡ true → BelowAll l ls → BelowAll k ls
     below_rest k l [] h below = tt

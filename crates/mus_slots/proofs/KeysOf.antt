@@ -22,7 +22,7 @@ use Rattle.mus_drawn.specs.declared.drawn.DrawnMeasure.{DrawnMeasure}
 use Rattle.mus_drawn.specs.declared.drawn.DrawnVoice.{DrawnVoice}
 use Rattle.mus_time.specs.Columns.{events_columns, has_old, measures_columns, staff_columns}
 use Rattle.mus_slots.specs.Voice.{change_slots, columns_slots, events_slots, first_slots, grace_slots, head_slots}
-use Rattle.mus_slots.specs.Voice.{keys_of, measures_slots, slot_if, voice_slots}
+use Rattle.mus_slots.specs.Voice.{keys_of, measures_slots, range_slots, slot_if, voice_slots}
 
 -- events and measures with the seat of their voice
 abbrev pub AreSeated : Bool → List DrawnEvent → Type 0
@@ -132,7 +132,7 @@ module _ (first : ℕ) (lower : Bool) where
       ∙ sym (keys_join lower (keys ++ bar_key lengths m ∷ []) rest)
       ∙ ap (keys_by lower) (append_assoc keys (bar_key lengths m ∷ []) rest)
 
-  head_keyed : (a : ℕ) (ds : List DrawnMeasure)
+  pub head_keyed : (a : ℕ) (ds : List DrawnMeasure)
       → 1 ≤ length ds → AllByRecursion (IsSeated lower) ds → keys_of (head_slots a ds) ≡ keys_by lower (head_key a ∷ [])
   head_keyed a [] some seated = absurd (omega (arith, some))
   head_keyed a (d ∷ ds) some seated =
@@ -177,11 +177,24 @@ module _ (first : ℕ) (lower : Bool) where
       ∙ ap (λ t. keys_by lower (head_key a ∷ first_keys a bar) ++ t) (measures_keyed lengths a true ds seated)
       ∙ sym (keys_join lower (head_key a ∷ first_keys a bar) rest)
 
+pub seated_range : (lower : Bool) (a b : ℕ) (ds : List DrawnMeasure)
+    → AllByRecursion (IsSeated lower) ds → AllByRecursion (IsSeated lower) (slice_range ds a b)
+seated_range lower a b ds seated =
+    all_take (IsSeated lower) (b - a) (drop a ds) (all_drop (IsSeated lower) a ds seated)
+
 -- the slots of a voice, whose measures have its seat, in a system that is not empty
 pub voice_keyed : (first : ℕ) (lengths : List ℕ) (a b : ℕ) (v : DrawnVoice)
     → 1 ≤ length (slice_range v.measures a b) → AllByRecursion (IsSeated (is_lower v.seat)) v.measures
     → keys_of (voice_slots first lengths a b v) ≡ staff_columns true lengths a b v
 voice_keyed first lengths a b v some seated =
     columns_keyed first (is_lower v.seat) lengths a v.seat v.first (slice_range v.measures a b) some refl
-    (all_take (IsSeated (is_lower v.seat)) (b - a) (drop a v.measures)
-    (all_drop (IsSeated (is_lower v.seat)) a v.measures seated))
+    (seated_range (is_lower v.seat) a b v.measures seated)
+
+-- in a system that begins with these measures, or began before
+pub range_keyed : (begins : Bool) (first : ℕ) (lengths : List ℕ) (a b : ℕ) (v : DrawnVoice)
+    → 1 ≤ length (slice_range v.measures a b) → AllByRecursion (IsSeated (is_lower v.seat)) v.measures
+    → keys_of (range_slots begins first lengths a b v) ≡ staff_columns begins lengths a b v
+range_keyed true first lengths a b v some seated = voice_keyed first lengths a b v some seated
+range_keyed false first lengths a b v some seated =
+    measures_keyed first (is_lower v.seat) lengths a false (slice_range v.measures a b)
+    (seated_range (is_lower v.seat) a b v.measures seated)

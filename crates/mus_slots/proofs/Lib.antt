@@ -4,4 +4,5 @@ pub mod KeysOf
 pub mod Marks
 pub mod Parts
 pub mod Plans
+pub mod Ranges
 pub mod Rising
