@@ -204,7 +204,7 @@ module _ (keys : List ColumnKey) (place : Option WordRoom) where
         (event_slots first m in_head before (slots.levels_after e.plan es) e)
         (events_slots first m false e.plan.group e.plan.flags es))
 
-    measures_laid : (lengths : List ℕ) (m : ℕ) (in_head : Bool) (ds : List DrawnMeasure)
+    pub measures_laid : (lengths : List ℕ) (m : ℕ) (in_head : Bool) (ds : List DrawnMeasure)
         → measures_marks keys lengths place m in_head ds
         ≡ laid keys place (measures_slots first lengths m in_head ds)
     measures_laid lengths m in_head [] = refl
@@ -225,7 +225,7 @@ module _ (keys : List ColumnKey) (place : Option WordRoom) where
         unless_laid (is_lower d.seat) (head_key a)
         (head_marks d.opening.clef d.opening.key.signs (slots.meter_shown a d.opening))
 
-    columns_laid : (lengths : List ℕ) (a : ℕ) (seat : Seat) (bar : Bar) (ds : List DrawnMeasure)
+    pub columns_laid : (lengths : List ℕ) (a : ℕ) (seat : Seat) (bar : Bar) (ds : List DrawnMeasure)
         → columns_part keys lengths place a seat bar ds
         ≡ laid keys place (columns_slots first lengths a seat bar ds)
     unfolding columns_part

@@ -85,7 +85,7 @@ measures_seated style now [] = tt
 measures_seated style now (m ∷ ms) =
     (measure_seated style now m, measures_seated style (staff_state_after now (flats_of m.body)) ms)
 
-voice_seated : (v : Voice) → AllByRecursion (IsSeated (is_lower (drawn_voice v).seat)) (drawn_voice v).measures
+pub voice_seated : (v : Voice) → AllByRecursion (IsSeated (is_lower (drawn_voice v).seat)) (drawn_voice v).measures
 unfolding drawn_voice
 voice_seated v = measures_seated (style_of v) (standing_of v) v.measures
 

@@ -6,29 +6,32 @@ use Rattle.std.proofs.lemmas.List.{length-map}
 use Rattle.std.proofs.lemmas.List.Elements.{All-from_recursion, Contains-append_left, Contains-append_right}
 use Rattle.std.proofs.lemmas.List.Elements.{recursion_from_All}
 use Rattle.std.specs.List.{All, AllByRecursion, Contains, flat_map, slice_index, slice_range}
-use Rattle.mus_score.specs.declared.score.Measure.{Measure}
 use Rattle.mus_score.specs.declared.score.Score.{Score}
 use Rattle.mus_score.specs.declared.score.Voice.{Voice}
-use Rattle.mus_score.specs.Seats.{is_lower}
-use Rattle.mus_score.specs.Times.{flats_of}
 use Rattle.mus_score.specs.GoodScore.{IsGoodScore, IsLed}
 use Rattle.mus_onsets.specs.declared.keys.Class.{Class}
 use Rattle.mus_onsets.specs.declared.keys.ColumnKey.{ColumnKey}
 use Rattle.mus_onsets.specs.declared.times.Timeline.{Timeline}
 use Rattle.mus_onsets.specs.Onsets.{timeline_of}
-use Rattle.mus_onsets.specs.Keys.{AreKeys, all_keys, bar_key, called_keys, events_keys, first_keys, further_keys}
-use Rattle.mus_onsets.specs.Keys.{IsInSystem, key_at, keys_by, measures_keys, signed_at}
+use Rattle.mus_onsets.specs.Keys.{AreKeys, IsInSystem, bar_key, keys_by}
 use Rattle.mus_onsets.specs.Order.{BelowAll, is_below, Rises}
 use Rattle.mus_drawn.specs.declared.drawn.DrawnMeasure.{DrawnMeasure}
 use Rattle.mus_drawn.specs.declared.drawn.DrawnVoice.{DrawnVoice}
+use Rattle.mus_drawn.specs.Drawn.{drawn_voice}
+use Rattle.mus_laid.specs.declared.laid.Laid.{Laid}
 use Rattle.mus_laid.specs.Boxes.{AreGoodMarks}
 use Rattle.mus_stems.proofs.RunLaws.{all_append, all_drop, all_take}
-use Rattle.mus_time.specs.Columns.{keys_called}
-use Rattle.mus_time.proofs.Called.{called_places}
+use Rattle.mus_time.specs.Columns.{events_columns, front_columns, keys_called, measures_columns, range_columns}
+use Rattle.mus_time.specs.Columns.{staff_columns}
+use Rattle.mus_time.proofs.Called.{called_places, called_same}
+use Rattle.mus_time.proofs.Counts.{voice_count}
+use Rattle.mus_marks.specs.Events.{measures_marks}
+use Rattle.mus_marks.specs.Staff.{columns_part}
 use Rattle.mus_marks.specs.System.{drawn_staves}
 use Rattle.mus_marks.proofs.Fitting.{staves_fit}
 use Rattle.mus_marks.proofs.Parts.{columns_all, Fits, FitsMeasure, FitsVoice, measures_all}
 use Rattle.mus_marks.proofs.GoodMarks.{goods, IsGood}
+use Rattle.law_slots.proofs.Laid.{columns_laid, measures_laid}
 use Rattle.lay_reaches.specs.declared.column.Column.{Column}
 use Rattle.lay_reaches.specs.Columns.{StandsWhereDue}
 use Rattle.lay_reaches.specs.Widened.{HaveGoodMarks}
@@ -114,50 +117,35 @@ pub end_with_bar : (lengths : List ℕ) (m : ℕ) (cs : List Column)
 end_with_bar lengths m cs rise all h =
     ends lengths m cs rise (recursion_from_All (λ c. IsInSystem lengths m (m + 1) c.key) cs all) h
 
-has_bar : (lengths : List ℕ) (m : ℕ) (in_head signed : Bool) (x : Measure)
-    → Contains (measures_keys lengths m in_head signed (x ∷ [])) (bar_key lengths m)
-has_bar lengths m in_head signed x =
-    Contains-append_right (events_keys m in_head signed [] (flats_of x.body)) (bar_key lengths m ∷ [])
-    (bar_key lengths m) (0, omega arith, refl)
+slice_bar : (lengths : List ℕ) (m : ℕ) (in_head : Bool) (ds : List DrawnMeasure)
+    → m < length ds → Contains (measures_columns lengths m in_head (slice_range ds m (m + 1))) (bar_key lengths m)
+slice_bar lengths m in_head ds h =
+    let one = slice_one m ds h in
+    subst (λ xs. Contains (measures_columns lengths m in_head xs) (bar_key lengths m)) (sym one.1)
+    (Contains-append_right (events_columns m in_head one.0.events) (bar_key lengths m ∷ []) (bar_key lengths m)
+    (0, omega arith, refl))
 
-slice_bar : (lengths : List ℕ) (m : ℕ) (in_head signed : Bool) (xs : List Measure)
-    → m < length xs → Contains (measures_keys lengths m in_head signed (slice_range xs m (m + 1))) (bar_key lengths m)
-slice_bar lengths m in_head signed xs h =
-    let one = slice_one m xs h in
-    subst (λ t. Contains (measures_keys lengths m in_head signed t) (bar_key lengths m)) (sym one.1)
-    (has_bar lengths m in_head signed one.0)
-
--- all keys of the first voice are called for
-pub led_voice : (f : Voice → List ColumnKey) (n : ℕ) (k : ColumnKey) (vs : List Voice)
-    → 1 ≤ length vs → IsLed vs → All (λ v. length v.measures ≡ n) vs
-    → ((v : Voice) → length v.measures ≡ n → Contains (f v) k)
-    → Contains (flat_map (λ v. keys_by (is_lower v.seat) (f v)) vs) k
-led_voice f n k [] h led same has = absurd (omega (arith, h))
-led_voice f n k (v ∷ vs) h led same has =
-    Contains-append_left (keys_by (is_lower v.seat) (f v)) (flat_map (λ v. keys_by (is_lower v.seat) (f v)) vs) k
-    (subst (λ lower. Contains (keys_by lower (f v)) k) (sym led) (has v (same 0 v (omega arith))))
-
-called_bar : (s : Score) (lengths : List ℕ) (m : ℕ)
-    → IsGoodScore s → 1 ≤ length s.voices → m < s.measures
-    → Contains (called_keys s lengths m (m + 1)) (bar_key lengths m)
-called_bar s lengths m good some within =
-    led_voice (all_keys lengths m (m + 1)) s.measures (bar_key lengths m) s.voices some good.led good.measures (λ v e.
-    Contains-append_right (key_at m 0 Class.Head 0 ∷ first_keys m v.first)
-    (measures_keys lengths m true (signed_at m v) (slice_range v.measures m (m + 1))) (bar_key lengths m)
-    (slice_bar lengths m true (signed_at m v) v.measures (omega (arith, within, e))))
-
-further_bar : (s : Score) (lengths : List ℕ) (m : ℕ)
-    → IsGoodScore s → 1 ≤ length s.voices → m < s.measures → Contains (further_keys s lengths m) (bar_key lengths m)
-further_bar s lengths m good some within =
-    led_voice (λ v. measures_keys lengths m false (signed_at m v) (slice_range v.measures m (m + 1))) s.measures
-    (bar_key lengths m) s.voices some good.led good.measures (λ v e.
-    slice_bar lengths m false (signed_at m v) v.measures (omega (arith, within, e)))
+-- the first voice calls for all its columns
+led_bar : (begins : Bool) (lengths : List ℕ) (m n : ℕ) (vs : List Voice)
+    → 1 ≤ length vs → IsLed vs → All (λ v. length v.measures ≡ n) vs → m < n
+    → Contains (flat_map (staff_columns begins lengths m (m + 1)) (map drawn_voice vs)) (bar_key lengths m)
+unfolding drawn_voice
+led_bar begins lengths m n [] some led same within = absurd (omega (arith, some))
+led_bar begins lengths m n (v ∷ vs) some led same within =
+    let d = drawn_voice v in
+    let all = same 0 v (omega arith) in
+    Contains-append_left (staff_columns begins lengths m (m + 1) d)
+    (flat_map (staff_columns begins lengths m (m + 1)) (map drawn_voice vs)) (bar_key lengths m)
+    (subst (λ lower. Contains (keys_by lower (range_columns begins lengths m (m + 1) d)) (bar_key lengths m)) (sym led)
+    (Contains-append_right (front_columns begins m d.first) _ (bar_key lengths m)
+    (slice_bar lengths m begins d.measures (omega (arith, within, all, voice_count v)))))
 
 pub called_has_bar : (begins : Bool) (s : Score) (lengths : List ℕ) (m : ℕ)
     → IsGoodScore s → 1 ≤ length s.voices → m < s.measures
     → Contains (keys_called begins s lengths m) (bar_key lengths m)
-called_has_bar true s lengths m good some within = called_bar s lengths m good some within
-called_has_bar false s lengths m good some within = further_bar s lengths m good some within
+called_has_bar begins s lengths m good some within =
+    subst (λ ks. Contains ks (bar_key lengths m)) (sym (called_same begins s lengths m))
+    (led_bar begins lengths m s.measures s.voices some good.led good.measures within)
 
 module _ (begins : Bool) (s : Score) (t : Timeline) (m : ℕ) (verses : List ℕ) (columns : List Column)
     (are : AreMeasureColumns begins s t m verses columns) where
@@ -178,6 +166,20 @@ module _ (begins : Bool) (s : Score) (t : Timeline) (m : ℕ) (verses : List ℕ
       (count ∙ sym (length-map (drawn_staves s) (measure_staff begins (keys_in columns) t.lengths m))))
 
 -- ---- texts
+-- what a voice has in the columns of a measure, by rank
+abbrev own_laid : Bool → List ColumnKey → List ℕ → ℕ → ℕ → DrawnVoice → List Laid
+own_laid true keys lengths m first v =
+    columns_part keys lengths (Some (fixed_place first)) m v.seat v.first (slice_range v.measures m (m + 1))
+own_laid false keys lengths m first v =
+    measures_marks keys lengths (Some (fixed_place first)) m false (slice_range v.measures m (m + 1))
+
+pub part_laid : (begins : Bool) (keys : List ColumnKey) (lengths : List ℕ) (m first : ℕ) (v : DrawnVoice)
+    → own_laid begins keys lengths m first v ≡ measure_part begins keys lengths m first v
+part_laid true keys lengths m first v =
+    columns_laid keys (Some (fixed_place first)) first refl lengths m v.seat v.first (slice_range v.measures m (m + 1))
+part_laid false keys lengths m first v =
+    measures_laid keys (Some (fixed_place first)) first refl lengths m false (slice_range v.measures m (m + 1))
+
 sliced : (verses m : ℕ) (ds : List DrawnMeasure) → Fits verses ds → Fits verses (slice_range ds m (m + 1))
 sliced verses m ds fits =
     all_take (FitsMeasure verses) (m + 1 - m) (drop m ds) (all_drop (FitsMeasure verses) m ds fits)
@@ -185,16 +187,21 @@ sliced verses m ds fits =
 module _ (keys : List ColumnKey) (lengths : List ℕ) (m : ℕ) where
   part_good : (begins : Bool) (first : ℕ) (v : DrawnVoice)
       → FitsVoice v → AllByRecursion IsGood (measure_part begins keys lengths m first v)
-  part_good true first v fits =
-      let last : first + v.verses ≤ first + v.verses = omega arith in
-      columns_all (first + v.verses) keys IsGood (goods (first + v.verses) keys) v.verses lengths
-      (Some (fixed_place first)) m v.seat v.first (slice_range v.measures m (m + 1))
-      last (sliced v.verses m v.measures fits)
-  part_good false first v fits =
-      let last : first + v.verses ≤ first + v.verses = omega arith in
-      measures_all (first + v.verses) keys IsGood (goods (first + v.verses) keys) v.verses lengths
-      (Some (fixed_place first)) m false (slice_range v.measures m (m + 1))
-      last (sliced v.verses m v.measures fits)
+  part_good begins first v fits =
+      subst (AllByRecursion IsGood) (part_laid begins keys lengths m first v) (by begins)
+    where
+      last : first + v.verses ≤ first + v.verses
+      last = omega arith
+
+      by : (begins : Bool) → AllByRecursion IsGood (own_laid begins keys lengths m first v)
+      by true =
+          columns_all (first + v.verses) keys IsGood (goods (first + v.verses) keys) v.verses lengths
+          (Some (fixed_place first)) m v.seat v.first (slice_range v.measures m (m + 1)) last
+          (sliced v.verses m v.measures fits)
+      by false =
+          measures_all (first + v.verses) keys IsGood (goods (first + v.verses) keys) v.verses lengths
+          (Some (fixed_place first)) m false (slice_range v.measures m (m + 1)) last
+          (sliced v.verses m v.measures fits)
 
   parts_good : (begins : Bool) (first : ℕ) (vs : List DrawnVoice)
       → AllByRecursion FitsVoice vs

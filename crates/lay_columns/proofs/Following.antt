@@ -1,175 +1,103 @@
 -- After its head, a measure that begins without a change has the columns that it has in a system which began before.
-use Rattle.std.proofs.Common.{◌≡◌, ◌∙◌, ℕ, ◌+◌, ◌-◌, ◌<◌, ◌≤◌, ◌==◌, ◌&&◌, not, Bool, true, false, if◌then◌else◌, min}
-use Rattle.std.proofs.Common.{List, [], ◌∷◌, ◌++◌, length, map, drop, Option, Some, None, refl, sym, ap, subst, arith}
+use Rattle.std.proofs.Common.{◌≡◌, ◌∙◌, ℕ, zero, suc, ◌+◌, ◌-◌, ◌<◌, ◌≤◌, ◌==◌, ◌&&◌, ◌||◌, not, Bool, true, false, min}
+use Rattle.std.proofs.Common.{List, [], ◌∷◌, length, take, drop, map, Option, None, is_none, refl, sym, ap, subst}
+use Rattle.std.proofs.Common.{arith}
 use Rattle.std.proofs.lemmas.Bool.Decides.{nat_tests}
-use Rattle.std.proofs.lemmas.List.{append-nil}
-use Rattle.std.proofs.lemmas.List.Elements.{All-from_recursion, All-nil, recursion_from_All}
+use Rattle.std.proofs.lemmas.List.Elements.{recursion_from_All}
 use Rattle.std.proofs.lemmas.List.Sums.{AllPass-from_list_all}
-use Rattle.std.specs.List.{AllByRecursion, Contains, flat_map, list_all, slice_index, slice_range}
-use Rattle.mus_score.specs.{declared.score.{Score.Score, Voice.Voice}, GoodScore.IsGoodScore, Seats.is_lower}
-use Rattle.mus_onsets.specs.declared.keys.Class.{Class}
+use Rattle.std.specs.List.{AllByRecursion, Contains, flat_map, list_all, slice_get, slice_range}
+use Rattle.std.specs.Prelude.{is_some}
+use Rattle.mus_units.specs.declared.key.Key.{Key}
+use Rattle.mus_units.specs.declared.key.Meter.{Meter}
+use Rattle.mus_units.specs.declared.pitch.Clef.{Clef}
+use Rattle.mus_score.specs.declared.score.{Changes.Changes, Score.Score, Voice.Voice}
+use Rattle.mus_score.specs.{GoodScore.IsGoodScore, Seats.is_lower}
 use Rattle.mus_onsets.specs.declared.keys.ColumnKey.{ColumnKey}
 use Rattle.mus_onsets.specs.declared.times.Timeline.{Timeline}
-use Rattle.mus_onsets.specs.Keys.{AreKeys, IsInSystem, has_features, head_key, measure_keys, voice_keys}
-use Rattle.mus_onsets.specs.Onsets.{measure_length, timeline_of}
-use Rattle.mus_onsets.specs.Order.{Rises, class_number, is_below, key_rank}
-use Rattle.mus_onsets.specs.Ranks.{rank_at}
-use Rattle.mus_onsets.proofs.Places.{length_is}
-use Rattle.mus_onsets.proofs.RankLaws.{rank_at_place}
+use Rattle.mus_onsets.specs.Keys.{AreKeys, change_has_mark, head_key, key_has_mark, measure_keys, meter_has_mark}
+use Rattle.mus_onsets.specs.Keys.{voice_keys}
+use Rattle.mus_onsets.specs.Onsets.{timeline_of}
+use Rattle.mus_onsets.specs.Order.{BelowAll, is_below}
+use Rattle.mus_onsets.proofs.RankLaws.{false_not_true}
 use Rattle.mus_laid.specs.declared.drawn.LaneInk.{LaneInk}
-use Rattle.mus_laid.specs.declared.laid.Laid.{Laid}
-use Rattle.mus_laid.specs.declared.laid.StaffMarks.{StaffMarks}
-use Rattle.mus_laid.specs.Ranked.{drawn_at}
-use Rattle.mus_ink.specs.Bars.{bar_marks}
 use Rattle.mus_drawn.specs.declared.drawn.DrawnEvent.{DrawnEvent}
 use Rattle.mus_drawn.specs.declared.drawn.DrawnMeasure.{DrawnMeasure}
 use Rattle.mus_drawn.specs.declared.drawn.DrawnVoice.{DrawnVoice}
 use Rattle.mus_drawn.specs.Drawn.{drawn_voice}
-use Rattle.mus_time.specs.Columns.{keys_called}
-use Rattle.mus_time.proofs.Called.{called_places, called_same}
-use Rattle.mus_marks.specs.declared.events.WordRoom.{WordRoom}
-use Rattle.mus_marks.specs.Events.{bar_part, change_part, changes_nothing, event_marks, events_marks, graces_part}
-use Rattle.mus_marks.specs.Events.{levels_after, levels_in, measures_marks, note_part, note_rank, words_part}
-use Rattle.mus_marks.specs.Staff.{columns_part, head_part}
+use Rattle.mus_time.specs.Columns.{has_old}
+use Rattle.mus_time.proofs.Called.{called_same, keys_placed}
+use Rattle.mus_slots.specs.Staff.{slots_at}
+use Rattle.mus_slots.specs.Voice.{head_slots, range_slots, slot_if}
+use Rattle.mus_slots.proofs.ByKey.{at_after}
+use Rattle.mus_slots.proofs.Ranges.{BeginBare, StartsBare, columns_bare, voice_bare}
+use Rattle.mus_marks.specs.Events.{changes_nothing}
 use Rattle.mus_marks.specs.System.{drawn_staves, is_drawn_lower}
 use Rattle.mus_marks.proofs.Groups.{grouped_all}
 use Rattle.mus_marks.proofs.Inside.{head_inside}
-use Rattle.mus_marks.proofs.Unchanged.{nothing_marks}
+use Rattle.law_slots.proofs.Placed.{IsReady, all_ready}
 use Rattle.lay_reaches.specs.declared.column.Column.{Column}
-use Rattle.lay_reaches.specs.Columns.{columns_of}
-use Rattle.lay_reaches.specs.Joining.{AreJoined, IsBelow, StavesJoin, moved}
-use Rattle.lay_reaches.specs.Reaches.{rank_of_mark as mark_rank}
-use Rattle.lay_reaches.proofs.JoinLaws.{after_same, marks_join}
-use Rattle.lay_columns.specs.Measures.{AreFurther, AreMeasureColumns, begins_plain, first_plain, fixed_place, keys_in}
-use Rattle.lay_columns.specs.Measures.{measure_part, measure_staff, parts_from, staff_of_columns}
-use Rattle.lay_columns.proofs.HeadKeys.{ArePlain, one_plain, own_keys}
-use Rattle.lay_columns.proofs.Joined.{HasMeasures, all_weaker, both_joined, voices_fit}
-use Rattle.lay_columns.proofs.KeyLaws.{slice_long}
-use Rattle.lay_columns.proofs.Ranks.{IsPlaced, measures_in, slice_fit}
-use Rattle.lay_columns.proofs.Slots.{AreBelow, head_laid, head_slots, lay_below, lay_moved, measures_laid}
-use Rattle.lay_columns.proofs.Slots.{measures_slots, slot}
+use Rattle.lay_columns.specs.Measures.{AreFurther, AreMeasureColumns, begins_plain, first_plain, is_plain, keys_in}
+use Rattle.lay_columns.proofs.HeadKeys.{HasHead, own_keys}
+use Rattle.lay_columns.proofs.Keyed.{SameAt, all_weaker, both_pass, columns_same, measure_keyed, range_of}
 
--- ---- what a change would draw
-change_same : (keys : List ColumnKey) (m : ℕ) (lower : Bool) (e : DrawnEvent)
-    → changes_nothing e.flat.event.changes ≡ true → change_part keys m true e ≡ change_part keys m lower e
-change_same keys m true e h = refl
-change_same keys m false e h =
-    ap (map (drawn_at (rank_at keys m e.tick Class.Change 0))) (sym (nothing_marks e.clef e.old e.flat.event.changes h))
+-- ---- a voice that begins a measure without a change
+no_mark : (signed : Bool) (ch : Changes) → changes_nothing ch ≡ true → change_has_mark signed ch ≡ false
+no_mark signed ch h = by ch.clef ch.key ch.meter h
+  where
+    by : (clef : Option Clef) (key : Option Key) (meter : Option Meter)
+        → (is_none clef && is_none key && is_none meter) ≡ true
+        → (is_some clef || key_has_mark signed key || meter_has_mark meter) ≡ false
+    by None None None h = refl
+    by clef key meter h = absurd (false_not_true h)
 
-events_same : (keys : List ColumnKey) (place : Option WordRoom) (m : ℕ) (es : List DrawnEvent)
-    → first_plain es ≡ true → events_marks keys place m true 0 0 es ≡ events_marks keys place m false 0 0 es
-unfolding event_marks
-events_same keys place m [] h = refl
-events_same keys place m (e ∷ es) h =
-    ap (λ t.
-    (t ++ graces_part keys m e ++ note_part keys m (levels_in e.plan 0 0) (levels_after e.plan es) e
-    ++ words_part (note_rank keys m e) place e.flat)
-    ++ events_marks keys place m false e.plan.group e.plan.flags es)
-    (change_same keys m (is_lower e.seat) e h)
+starts_bare : (es : List DrawnEvent) → first_plain es ≡ true → StartsBare es
+starts_bare [] h = tt
+starts_bare (e ∷ es) h = no_mark (has_old e) e.flat.event.changes h
 
-measures_same : (keys : List ColumnKey) (lengths : List ℕ) (place : Option WordRoom) (m : ℕ) (ds : List DrawnMeasure)
-    → ArePlain ds → measures_marks keys lengths place m true ds ≡ measures_marks keys lengths place m false ds
-measures_same keys lengths place m [] h = refl
-measures_same keys lengths place m (d ∷ ds) h =
-    ap (λ t. (t ++ bar_part keys lengths m d) ++ measures_marks keys lengths place (m + 1) false ds)
-    (events_same keys place m d.events h.0)
+begin_bare : (m n : ℕ) (ds : List DrawnMeasure)
+    → n ≡ 1 → is_plain (slice_get ds m) ≡ true → BeginBare (take n (drop m ds))
+begin_bare m n ds one h = subst (λ k. BeginBare (take k (drop m ds))) (sym one) (by m ds h)
+  where
+    by : (m : ℕ) (ds : List DrawnMeasure) → is_plain (slice_get ds m) ≡ true → BeginBare (take 1 (drop m ds))
+    by zero [] h = tt
+    by (suc m) [] h = tt
+    by zero (d ∷ ds) h = starts_bare d.events h
+    by (suc m) (d ∷ ds) h = by m ds h
 
-past_head : (m : ℕ) (k : ColumnKey) → m ≤ k.measure → 1 ≤ class_number k.class → is_below (head_key m) k ≡ true
-unfolding is_below
-past_head m k from c = grind (arith, nat_tests, from, c)
+abbrev IsPlain : ℕ → DrawnVoice → Type 0
+IsPlain m v = BeginBare (slice_range v.measures m (m + 1))
 
-both_pass : {X : Type 0} (P Q : X → Type 0) (xs : List X)
-    → AllByRecursion P xs → AllByRecursion Q xs → AllByRecursion (λ x. P x × Q x) xs
-both_pass P Q [] p q = tt
-both_pass P Q (x ∷ xs) p q = ((p.0, q.0), both_pass P Q xs p.1 q.1)
+voices_plain : (m : ℕ) (vs : List DrawnVoice)
+    → list_all (begins_plain m) vs ≡ true → AllByRecursion (IsPlain m) vs
+voices_plain m vs plain =
+    all_weaker (λ v. begins_plain m v ≡ true) (IsPlain m)
+    (λ v h. begin_bare m (m + 1 - m) v.measures (omega arith) h) vs
+    (recursion_from_All (λ v. begins_plain m v ≡ true) vs (AllPass-from_list_all (begins_plain m) vs plain))
 
--- ---- the marks after the head
-module _ (lengths : List ℕ) (m n : ℕ) (some : 1 ≤ m) (within : m < n) (own : List ColumnKey)
-    (rise : Rises (head_key m ∷ own)) where
-  abbrev Following : DrawnVoice → Type 0
-  Following v = HasMeasures lengths n v × (begins_plain m v ≡ true)
+-- ---- its slots after the head
+head_below : (k : ColumnKey) (m : ℕ) (ds : List DrawnMeasure)
+    → is_below (head_key m) k ≡ true → AllByRecursion (λ s. is_below s.key k ≡ true) (head_slots m ds)
+head_below k m [] below = tt
+head_below k m (d ∷ ds) below = by (not (is_lower d.seat)) _
+  where
+    by : (b : Bool) (drawn : List LaneInk)
+        → AllByRecursion (λ s. is_below s.key k ≡ true) (slot_if b (head_key m) drawn)
+    by true drawn = (below, tt)
+    by false drawn = tt
 
-  abbrev begun : List ColumnKey
-  begun = head_key m ∷ own
+after_head : (lengths : List ℕ) (m : ℕ) (later : 1 ≤ m) (k : ColumnKey)
+    → is_below (head_key m) k ≡ true
+    → (v : DrawnVoice) → IsPlain m v
+    → SameAt (range_of true lengths m (m + 1)) (range_of false lengths m (m + 1)) k v
+after_head lengths m later k below v bare first =
+    let head = head_slots m (slice_range v.measures m (m + 1)) in
+    ap (slots_at k) (voice_bare first lengths m (m + 1) v later bare)
+    ∙ at_after (λ s. s.key) k head (range_slots false first lengths m (m + 1) v)
+    (head_below k m (slice_range v.measures m (m + 1)) below)
 
-  abbrev head_of : ℕ → DrawnVoice → List Laid
-  head_of first v = head_part begun m (slice_range v.measures m (m + 1))
-
-  head_below : (ds : List DrawnMeasure) → AreBelow 1 (head_part begun m ds)
-  head_below ds = subst (AreBelow 1) (sym (head_laid begun m ds)) (lay_below 1 begun (head_slots m ds) (by ds))
-    where
-      of : (lower : Bool) (xs : List LaneInk)
-          → AllByRecursion (λ x. key_rank begun x.key < 1) (if lower then [] else slot (head_key m) xs)
-      of true xs = tt
-      of false xs = let r = rank_at_place begun 0 (head_key m) rise (omega arith) in (omega (arith, r), tt)
-
-      by : (ds : List DrawnMeasure) → AllByRecursion (λ x. key_rank begun x.key < 1) (head_slots m ds)
-      by [] = tt
-      by (d ∷ ds) = of (is_lower d.seat) _
-
-  no_first : (lower features : Bool) → (not lower && (m == 0) && features) ≡ false
-  no_first lower features = grind (arith, nat_tests, some)
-
-  part_is : (first : ℕ) (v : DrawnVoice)
-      → Following v
-      → measure_part true begun lengths m first v
-      ≡ head_of first v ++ map (moved 1) (measure_part false own lengths m first v)
-  unfolding columns_part
-  part_is first v ((count, fit), plain) =
-      let ds = slice_range v.measures m (m + 1) in
-      let slots = measures_slots lengths first m false ds in
-      let long = slice_long m (m + 1) v.measures (omega (arith, within, count)) in
-      let placed = measures_in lengths m (m + 1) 2 (omega arith) first m false ds (omega arith) (omega (arith, long))
-      (slice_fit lengths m (m + 1) v.measures fit) in
-      let place = Some (fixed_place first) in
-      ap (λ c.
-      (head_part begun m ds ++ (if c then map (drawn_at (rank_at begun 0 0 Class.First 0)) (bar_marks v.first) else []))
-      ++ measures_marks begun lengths place m true ds)
-      (no_first (is_lower v.seat) (has_features v.first))
-      ∙ ap (λ t. t ++ measures_marks begun lengths place m true ds) (append-nil (head_part begun m ds))
-      ∙ ap (λ t. head_part begun m ds ++ t)
-      (measures_same begun lengths place m ds (one_plain m (m + 1 - m) v.measures (omega arith) plain)
-      ∙ measures_laid begun first lengths m false ds
-      ∙ lay_moved 1 own begun slots
-      (all_weaker (λ x. IsPlaced lengths m (m + 1) 2 x.key) (λ x. key_rank begun x.key ≡ 1 + key_rank own x.key)
-      (λ x h.
-      let p = h.past in
-      ap (λ c. if c then 1 + key_rank own x.key else key_rank own x.key) (past_head m x.key h.from (omega (arith, p))))
-      slots placed)
-      ∙ ap (map (moved 1)) (sym (measures_laid own first lengths m false ds)))
-
-  part_after : (first : ℕ) (v : DrawnVoice)
-      → Following v
-      → AreJoined 1 (measure_part true begun lengths m first v) (head_of first v)
-      (measure_part false own lengths m first v)
-  part_after first v h =
-      let more = measure_part false own lengths m first v in
-      subst (λ t. AreJoined 1 t (head_of first v) more)
-      (append-nil (head_of first v ++ map (moved 1) more) ∙ sym (part_is first v h))
-      (marks_join 1 (head_of first v) more []
-      (All-from_recursion (λ l. IsBelow 1 (mark_rank l.mark)) (head_of first v)
-      (head_below (slice_range v.measures m (m + 1))))
-      (All-nil (λ l. mark_rank l.mark ≡ None)))
-
-  parts_after : (first : ℕ) (vs : List DrawnVoice)
-      → AllByRecursion Following vs
-      → AreJoined 1 (parts_from (measure_part true begun lengths m) first vs) (parts_from head_of first vs)
-      (parts_from (measure_part false own lengths m) first vs)
-  parts_after first [] h = record { prefix = λ rank lane l. refl; following = λ rank lane. refl }
-  parts_after first (v ∷ vs) h =
-      both_joined 1 (measure_part true begun lengths m first v) (head_of first v)
-      (measure_part false own lengths m first v) _ _ _ (part_after first v h.0)
-      (parts_after (first + v.verses) vs h.1)
-
-  abbrev heads : List DrawnVoice → StaffMarks
-  heads vs = staff_of_columns (parts_from head_of 0 vs)
-
-  staves_after : (staves : List (List DrawnVoice))
-      → AllByRecursion (AllByRecursion Following) staves
-      → StavesJoin 1 (map (measure_staff true begun lengths m) staves) (map heads staves)
-      (map (measure_staff false own lengths m) staves)
-  staves_after [] h = tt
-  staves_after (vs ∷ staves) h = (parts_after 0 vs h.0, staves_after staves h.1)
+all_below : (k : ColumnKey) (ks : List ColumnKey) → BelowAll k ks → AllByRecursion (λ l. is_below k l ≡ true) ks
+all_below k [] below = tt
+all_below k (l ∷ ks) below = (below.0, all_below k ks below.1)
 
 -- ---- the columns after the head
 some_voice : (f : Voice → List ColumnKey) (k : ColumnKey) (vs : List Voice) → Contains (flat_map f vs) k → 1 ≤ length vs
@@ -181,42 +109,34 @@ of_after : (s : Score) (t : Timeline) (m : ℕ) (verses : List ℕ) (column : Co
     → list_all (begins_plain m) (map drawn_voice s.voices) ≡ true
     → AreMeasureColumns true s t m verses (column ∷ columns)
     → AreMeasureColumns false s t m verses columns
-of_after s t m verses column columns good timed some within plain are =
+of_after s t m verses column columns good timed later within plain are =
     let lengths = t.lengths in
-    let staves = drawn_staves s in
     let voices = map drawn_voice s.voices in
     let own = keys_in columns in
     let keys = column.key ∷ own in
-    let each =
-    recursion_from_All (λ v. begins_plain m v ≡ true) voices (AllPass-from_list_all (begins_plain m) voices plain) in
-    let places = called_places true s m keys good within
-    (subst (λ z. AreKeys keys (keys_called true s z.lengths m)) timed are.keys) in
-    let from = all_weaker (IsInSystem (timeline_of s).lengths m (m + 1)) (λ k. m ≤ k.measure) (λ k h. h.from) keys
-    (recursion_from_All (IsInSystem (timeline_of s).lengths m (m + 1)) keys places) in
+    let bare = voices_plain m voices plain in
+    let placed = keys_placed s t m (m + 1) keys timed good (omega arith) (omega (arith, within)) are.keys in
     let head = head_inside s lengths m (m + 1) keys good
     (some_voice (voice_keys lengths m (m + 1)) column.key s.voices (are.keys.only column.key (0, omega arith, refl)))
     are.keys in
-    let called = own_keys lengths m some voices column.key own each from head
+    let ready = all_ready s t m (m + 1) keys timed good (omega arith) (omega (arith, within)) are.keys in
+    let headed = all_weaker (λ v. IsReady keys lengths m (m + 1) v × IsPlain m v) (HasHead lengths m)
+    (λ v is. record {
+      parts = columns_bare lengths m (m + 1) v is.0.seated later is.0.some is.1;
+      rise = is.0.slotted.rise;
+    }) voices (both_pass (IsReady keys lengths m (m + 1)) (IsPlain m) voices ready bare) in
+    let called = own_keys lengths m voices column.key own headed (placed 0 column.key (omega arith)).from head
     (subst (AreKeys keys) (called_same true s lengths m) are.keys) in
-    let rise = subst (λ k. Rises (k ∷ own)) called.0 are.keys.rise in
-    let long = λ (k : ℕ) (h : k < s.measures).
-    subst (λ z. measure_length s.voices k ≤ slice_index z.lengths k) (sym timed) (omega (arith, length_is s k h)) in
-    let fit = grouped_all is_drawn_lower (λ v. HasMeasures lengths s.measures v × (begins_plain m v ≡ true)) voices
-    (both_pass (HasMeasures lengths s.measures) (λ v. begins_plain m v ≡ true) voices
-    (voices_fit lengths s.measures s.voices
-    (recursion_from_All (λ v. length v.measures ≡ s.measures) s.voices good.measures) long)
-    each) in
+    let further = subst (AreKeys own) (sym (called_same false s lengths m)) called.1 in
     record {
-      keys = subst (AreKeys own) (sym (called_same false s lengths m)) called.1;
+      keys = further;
       value =
-          ap (drop 1)
-          (are.value
-          ∙ ap (λ k. columns_of (k ∷ own) (map (measure_staff true (k ∷ own) lengths m) staves) lengths verses)
-          called.0)
-          ∙ after_same (map (measure_staff true (head_key m ∷ own) lengths m) staves)
-          (map (heads lengths m s.measures some within own rise) staves)
-          (map (measure_staff false own lengths m) staves) lengths verses
-          1 0 own (staves_after lengths m s.measures some within own rise staves fit);
+          ap (drop 1) (are.value ∙ measure_keyed true s lengths m verses keys good within are.keys)
+          ∙ columns_same (range_of true lengths m (m + 1)) (range_of false lengths m (m + 1))
+          (λ k. is_below (head_key m) k ≡ true) (IsPlain m) (after_head lengths m later) own (drawn_staves s) lengths
+          verses (all_below (head_key m) own (subst (λ k. BelowAll k own) called.0 are.keys.rise.0))
+          (grouped_all is_drawn_lower (IsPlain m) voices bare)
+          ∙ sym (measure_keyed false s lengths m verses own good within further);
     }
 
 min_one : (m : ℕ) → 1 ≤ m → 1 ≡ min m 1

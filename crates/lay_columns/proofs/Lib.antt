@@ -1,8 +1,7 @@
+mod Boxes
 mod Following
 pub mod Facts
 mod HeadKeys
 pub mod Joined
-mod KeyLaws
-mod Ranks
-mod SameBoxes
-mod Slots
+mod Keyed
+mod Keys

@@ -1,23 +1,28 @@
 -- The columns of one measure: in a system that begins with it, and in one that began before. Columns depend neither
 -- on heights nor on the texts already in a column, so syllables and texts are placed in a fixed room.
 use Rattle.mus_laid.specs.Distances.{top_line}
-use Rattle.std.specs.Prelude.{◌≡◌, ℕ, pos, ◌+◌, ◌-◌, ◌==◌, Bool, true, false, List, [], ◌∷◌, ◌++◌, drop, map, min}
-use Rattle.std.specs.Prelude.{slice_get, slice_range, Option, Some, None}
+use Rattle.std.specs.Prelude.{◌≡◌, ℕ, pos, ◌+◌, ◌-◌, ◌==◌, Bool, true, List, [], ◌∷◌, ◌++◌, drop, flat_map, map, min}
+use Rattle.std.specs.Prelude.{slice_get, Option, Some, None}
 use Rattle.mus_score.specs.declared.score.Score.{Score}
 use Rattle.mus_onsets.specs.declared.keys.Class.{Class}
 use Rattle.mus_onsets.specs.declared.keys.ColumnKey.{ColumnKey}
 use Rattle.mus_onsets.specs.declared.times.Timeline.{Timeline}
 use Rattle.mus_onsets.specs.Keys.{AreKeys}
+use Rattle.mus_onsets.specs.Order.{key_rank}
+use Rattle.mus_laid.specs.declared.drawn.LaneInk.{LaneInk}
 use Rattle.mus_laid.specs.declared.laid.Laid.{Laid}
 use Rattle.mus_laid.specs.declared.laid.StaffMarks.{StaffMarks}
+use Rattle.mus_laid.specs.Ranked.{drawn_at}
 use Rattle.mus_drawn.specs.declared.drawn.DrawnEvent.{DrawnEvent}
 use Rattle.mus_drawn.specs.declared.drawn.DrawnMeasure.{DrawnMeasure}
 use Rattle.mus_drawn.specs.declared.drawn.DrawnVoice.{DrawnVoice}
 use Rattle.mus_time.specs.Columns.{keys_called}
+use Rattle.mus_slots.specs.declared.slots.Slot.{Slot}
+use Rattle.mus_slots.specs.Staff.{written_marks}
+use Rattle.mus_slots.specs.Voice.{range_slots}
 use Rattle.mus_marks.specs.declared.events.WordRoom.{WordRoom}
 use Rattle.mus_marks.specs.declared.events.StaffRoom.{StaffRoom}
-use Rattle.mus_marks.specs.Events.{changes_nothing, measures_marks}
-use Rattle.mus_marks.specs.Staff.{columns_part}
+use Rattle.mus_marks.specs.Events.{changes_nothing, no_texts, text_place}
 use Rattle.mus_marks.specs.System.{drawn_staves}
 use Rattle.lay_reaches.specs.declared.column.Column.{Column}
 use Rattle.lay_reaches.specs.Columns.{columns_of}
@@ -38,13 +43,17 @@ abbrev pub parts_from : (ℕ → DrawnVoice → List Laid) → ℕ → List Draw
 parts_from part first [] = []
 parts_from part first (v ∷ vs) = part first v ++ parts_from part (first + v.verses) vs
 
+-- what slots have in their columns
+abbrev pub slot_ink : Slot → List LaneInk
+slot_ink s = s.drawn ++ written_marks (text_place fixed_room no_texts) s.written
+
+abbrev pub slots_marks : List ColumnKey → List Slot → List Laid
+slots_marks keys slots = flat_map (λ s. map (drawn_at (key_rank keys s.key)) (slot_ink s)) slots
+
 -- The marks in the columns of measure m of a voice. If the system begins with it: with the system's head and the bar
 -- before the first measure. If the system began before: each event after its change and its graces, and the bar.
 abbrev pub measure_part : Bool → List ColumnKey → List ℕ → ℕ → ℕ → DrawnVoice → List Laid
-measure_part true keys lengths m first v =
-    columns_part keys lengths (Some (fixed_place first)) m v.seat v.first (slice_range v.measures m (m + 1))
-measure_part false keys lengths m first v =
-    measures_marks keys lengths (Some (fixed_place first)) m false (slice_range v.measures m (m + 1))
+measure_part begins keys lengths m first v = slots_marks keys (range_slots begins first lengths m (m + 1) v)
 
 abbrev pub measure_staff : Bool → List ColumnKey → List ℕ → ℕ → List DrawnVoice → StaffMarks
 measure_staff begins keys lengths m voices = staff_of_columns (parts_from (measure_part begins keys lengths m) 0 voices)

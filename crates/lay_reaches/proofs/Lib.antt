@@ -1,7 +1,7 @@
 pub mod Covering
 pub mod Facts
 pub mod Gaps
-pub mod JoinLaws
+pub mod Keyed
 pub mod Lone
 pub mod Rows
 pub mod Widening

@@ -1,6 +1,5 @@
 pub mod Column
 pub mod Columns
-pub mod Joining
 pub mod Lanes
 pub mod Naturals
 pub mod Reaches
