@@ -1,9 +1,8 @@
 -- Arcs go from the column of an event to that of a later one. The head comes before all notes of a system and the bar
 -- of its last measure after them, so an end that is cut by the system is outside of them too.
-use Rattle.std.proofs.Common.{◌≡◌, ◌∙◌, ℕ, zero, suc, ◌-◌, ◌<◌, ◌≤◌, ◌⊎◌, inl, inr, Bool, true, false, nat_lt, nat_le}
+use Rattle.std.proofs.Common.{◌≡◌, ◌∙◌, ℕ, zero, suc, ◌-◌, ◌<◌, ◌≤◌, Bool, true, false, nat_lt, nat_le}
 use Rattle.std.proofs.Common.{◌==◌, ◌&&◌, if◌then◌else◌, List, [], ◌∷◌, ◌++◌, length, map, reverse, Option, Some, None}
 use Rattle.std.proofs.Common.{refl, sym, ap, subst, arith}
-use Rattle.std.proofs.lemmas.Bool.{cases_lt}
 use Rattle.std.proofs.lemmas.Bool.Decides.{nat_tests}
 use Rattle.std.proofs.lemmas.List.Elements.{All-contains, All-from_recursion, recursion_from_All}
 use Rattle.std.proofs.lemmas.List.Sorted.{All-permutation, IsPermutation-reverse}
@@ -15,10 +14,10 @@ use Rattle.mus_score.specs.declared.score.Measure.{Measure}
 use Rattle.mus_score.specs.declared.score.Voice.{Voice}
 use Rattle.mus_score.specs.GoodScore.{AreCounted, IsGoodVoice, events_of}
 use Rattle.mus_score.specs.Times.{flats_of}
+use Rattle.mus_onsets.specs.declared.keys.Class.{Class}
 use Rattle.mus_onsets.specs.declared.keys.ColumnKey.{ColumnKey}
 use Rattle.mus_onsets.specs.Keys.{IsInSystem, bar_key, head_key}
 use Rattle.mus_onsets.specs.Order.{is_below}
-use Rattle.mus_onsets.proofs.Orders.{lower}
 use Rattle.mus_stems.proofs.RunLaws.{all_append, all_drop}
 use Rattle.mus_arcs.specs.declared.events.ArcEvent.{ArcEvent}
 use Rattle.mus_arcs.specs.declared.pairing.Arc.{Arc}
@@ -36,7 +35,8 @@ use Rattle.mus_drawn.specs.Drawn.{drawn_voice}
 use Rattle.mus_time.specs.Columns.{note_key}
 use Rattle.mus_bridges.specs.Arcs.{arc_between, arc_in, arcs_between, event_at, event_in, has_id, piece_between}
 use Rattle.mus_bridges.specs.Arcs.{seen_of}
-use Rattle.mus_marks.proofs.GoingOn.{AllGoOn, GoOn, IsEarlier, later_below}
+use Rattle.mus_slots.proofs.Rising.{class_below}
+use Rattle.mus_marks.proofs.GoingOn.{AllGoOn, GoOn, IsEarlier}
 use Rattle.mus_marks.proofs.Inside.{HasEvent, HasMeasures, measure_at, there}
 use Rattle.law_marks_in_range.proofs.Between.{AreBetween, IsBetween, both}
 
@@ -235,28 +235,10 @@ in_turn (x ∷ xs) e f on (suc i, inside, is) (suc j, inside', is') less =
     in_turn xs e f on.1 (i, omega (arith, inside), is) (j, omega (arith, inside'), is') less
 
 -- ---- the order of their columns
-head_below : (a m : ℕ) (e : DrawnEvent) → a ≤ m → is_below (head_key a) (note_key m e) ≡ true
+notes_below : (m n : ℕ) (e f : DrawnEvent)
+    → m ≤ n → (m ≡ n → e.tick < f.tick) → is_below (note_key m e) (note_key n f) ≡ true
 unfolding is_below
-head_below a m e h = grind (arith, nat_tests)
-
-head_bar_below : (lengths : List ℕ) (a m : ℕ) → a ≤ m → is_below (head_key a) (bar_key lengths m) ≡ true
-unfolding is_below
-head_bar_below lengths a m h = grind (arith, nat_tests)
-
-own_bar_above : (lengths : List ℕ) (m n : ℕ) (e : DrawnEvent)
-    → m ≡ n → e.tick ≤ slice_index lengths n → is_below (note_key m e) (bar_key lengths n) ≡ true
-unfolding is_below
-own_bar_above lengths m n e same h = grind (arith, nat_tests)
-
-less_or_same : (m n : ℕ) → m ≤ n → (m < n) ⊎ (m ≡ n)
-less_or_same m n h = elim (cases_lt m n) [ inl less ↦ inl less | inr more ↦ inr (omega (arith, h, more)) ]
-
-bar_above : (lengths : List ℕ) (m n : ℕ) (e : DrawnEvent)
-    → m ≤ n → (m ≡ n → e.tick ≤ slice_index lengths n) → is_below (note_key m e) (bar_key lengths n) ≡ true
-bar_above lengths m n e le within = elim (less_or_same m n le) [
-  | inl sooner ↦ lower (note_key m e) (bar_key lengths n) sooner
-  | inr same ↦ own_bar_above lengths m n e same (within same)
-]
+notes_below m n e f le later = grind (arith, nat_tests, le, later)
 
 -- ---- pieces
 not_less : (m n : ℕ) → nat_lt m n ≡ false → n ≤ m
@@ -308,8 +290,8 @@ module _ (keys : List ColumnKey) (lengths : List ℕ) (a b : ℕ) (ds : List Dra
   before_last m id e from to at =
       let within =
       (All-contains (IsInSystem lengths a b) keys (note_key m e) are.places (has_note m id e from to at)).within in
-      bar_above lengths m (b - 1) e (omega (arith, to))
-      (λ same. subst (λ n. e.tick ≤ slice_index lengths n) same within)
+      class_below m (b - 1) e.tick (slice_index lengths (b - 1)) 0 0 Class.Note Class.Bar (omega (arith, to))
+      (λ same. subst (λ n. e.tick ≤ slice_index lengths n) same within) (omega arith)
 
   -- of two events of one measure
   same_measure : (m n first last : ℕ) (e f : DrawnEvent)
@@ -322,15 +304,6 @@ module _ (keys : List ColumnKey) (lengths : List ℕ) (a b : ℕ) (ds : List Dra
       in_turn at'.measure.events e f (measure_of (λ d. GoOn d.events) ds n at'.measure are.on at'.there)
       (subst (λ d. Contains d.events e) one at.within) at'.within (omega (arith, less, i, j))
 
-  note_before : (m n first last : ℕ) (e f : DrawnEvent)
-      → m ≤ n → first < last → IsAt ds m first e → IsAt ds n last f → is_below (note_key m e) (note_key n f) ≡ true
-  note_before m n first last e f le less at at' = elim (less_or_same m n le) [
-    | inl sooner ↦ lower (note_key m e) (note_key n f) sooner
-    | inr same ↦
-        subst (λ k. is_below (note_key m e) (note_key k f) ≡ true) same
-        (later_below m e f (same_measure m n first last e f same less at at'))
-  ]
-
   ends : (arc : Arc) (e f : DrawnEvent)
       → GoesOn arc → arc.from < b → a ≤ arc.to → IsAt ds arc.from arc.first e → IsAt ds arc.to arc.last f → (c d : Bool)
       → nat_lt arc.from a ≡ c
@@ -339,11 +312,17 @@ module _ (keys : List ColumnKey) (lengths : List ℕ) (a b : ℕ) (ds : List Dra
       (if d then bar_key lengths (b - 1) else note_key arc.to f)
   ends arc e f on begun over at at' true true p q =
       let order = are.order in
-      record { first = are.head; last = has_last_bar; rise = head_bar_below lengths a (b - 1) (omega (arith, order)) }
+      record {
+        first = are.head;
+        last = has_last_bar;
+        rise =
+            class_below a (b - 1) 0 (slice_index lengths (b - 1)) 0 0 Class.Head Class.Bar (omega (arith, order))
+            (λ same. omega arith) (omega arith);
+      }
   ends arc e f on begun over at at' true false p q = record {
     first = are.head;
     last = has_note arc.to arc.last f over (not_most b arc.to q) at';
-    rise = head_below a arc.to f over;
+    rise = class_below a arc.to 0 f.tick 0 0 Class.Head Class.Note over (λ same. omega arith) (omega arith);
   }
   ends arc e f on begun over at at' false true p q =
       let from = not_less arc.from a p in
@@ -355,7 +334,9 @@ module _ (keys : List ColumnKey) (lengths : List ℕ) (a b : ℕ) (ds : List Dra
   ends arc e f on begun over at at' false false p q = record {
     first = has_note arc.from arc.first e (not_less arc.from a p) begun at;
     last = has_note arc.to arc.last f over (not_most b arc.to q) at';
-    rise = note_before arc.from arc.to arc.first arc.last e f on.1 on.0 at at';
+    rise =
+        notes_below arc.from arc.to e f on.1
+        (λ same. same_measure arc.from arc.to arc.first arc.last e f same on.0 at at');
   }
 
   between : (arc : Arc) → GoesOn arc → arc.from < b → a ≤ arc.to → (first last : Option DrawnEvent)

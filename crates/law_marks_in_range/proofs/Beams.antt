@@ -1,7 +1,6 @@
 -- Beams go from the column of an event to that of a later one: within a measure the keys of notes rise.
 use Rattle.std.proofs.Common.{◌≡◌, ◌∙◌, ℕ, zero, suc, ◌+◌, ◌-◌, Bool, true, false, if◌then◌else◌, List, [], ◌∷◌, map}
-use Rattle.std.proofs.Common.{sym, arith}
-use Rattle.std.proofs.lemmas.Bool.Decides.{nat_tests}
+use Rattle.std.proofs.Common.{sym}
 use Rattle.std.specs.List.{AllByRecursion, Contains}
 use Rattle.mus_onsets.specs.declared.keys.ColumnKey.{ColumnKey}
 use Rattle.mus_onsets.specs.Order.{is_below, same_key}
@@ -12,15 +11,12 @@ use Rattle.mus_bridges.specs.declared.stems.BeamStem.{BeamStem}
 use Rattle.mus_bridges.specs.Beams.{beam_marks, beams_at, beams_from, goes_on_at_level, last_at, level_from}
 use Rattle.mus_bridges.specs.Beams.{levels_before, levels_from, stem_of}
 use Rattle.mus_bridges.specs.Bridges.{beams_between, beam_stem_at}
+use Rattle.mus_slots.proofs.ByKey.{same_itself}
 use Rattle.mus_marks.proofs.GoingOn.{AllGoOn, GoOn, IsEarlier, later_below}
 use Rattle.mus_marks.proofs.Inside.{HasEvent, HasMeasures}
 use Rattle.law_marks_in_range.proofs.Between.{AreBetween, both, unless}
 
 -- ---- over stems
-same_itself : (k : ColumnKey) → same_key k k ≡ true
-unfolding same_key
-same_itself k = grind (arith, nat_tests)
-
 module _ (keys : List ColumnKey) where
   -- if q is in another column than p, it is in a later one of the system
   abbrev IsFrom : BeamStem → BeamStem → Type 0

@@ -80,7 +80,7 @@ module _ (s : Score) (a b : ℕ) (m : SystemMarks) (good : IsGoodScore s) (rises
       → AllByRecursion (IsInside m.keys lengths a b) (map drawn_voice vs)
   inside_all [] ready = tt
   inside_all (v ∷ vs) ready =
-      (record { slotted = ready.0.slotted; planned = voice_planned v }, inside_all vs ready.1)
+      (record { keyed = ready.0.slotted.keyed; planned = voice_planned v }, inside_all vs ready.1)
 
   staves_inside : AllByRecursion (AllByRecursion (IsInside m.keys lengths a b)) (drawn_staves s)
   staves_inside =

@@ -1,5 +1,5 @@
 -- The marks of a staff are in columns of the system, and each column that its voices call for holds one.
-use Rattle.std.proofs.Common.{ℕ, zero, suc, ◌+◌, ◌<◌, ◌≤◌, inl, inr, List, [], ◌∷◌, ◌++◌, length, map}
+use Rattle.std.proofs.Common.{◌≡◌, ℕ, zero, suc, ◌+◌, ◌<◌, ◌≤◌, inl, inr, List, [], ◌∷◌, ◌++◌, length, map}
 use Rattle.std.proofs.Common.{refl, sym, subst, true, arith}
 use Rattle.std.proofs.lemmas.List.{length-append}
 use Rattle.std.proofs.lemmas.List.Elements.{Contains-append_cases, Contains-append_left, Contains-append_right}
@@ -22,12 +22,11 @@ use Rattle.mus_slots.specs.declared.slots.Slot.{Slot}
 use Rattle.mus_slots.specs.declared.slots.VoiceSlots.{VoiceSlots}
 use Rattle.mus_slots.specs.Staff.{all_slots, bare_laid, bridges_at, column_at, column_marks, column_slots, place_after}
 use Rattle.mus_slots.specs.Staff.{place_outside, slots_at, staff_laid, written_marks}
-use Rattle.mus_slots.specs.Voice.{slots_of_voices, voice_slots}
+use Rattle.mus_slots.specs.Voice.{keys_of, slots_of_voices, voice_slots}
 use Rattle.mus_slots.proofs.ByKey.{some_at}
 use Rattle.mus_slots.proofs.Filled.{HasSome, IsFilled, IsPlannedEvent, left, slots_filled}
 use Rattle.mus_slots.proofs.Marks.{all_kept, staff_each}
 use Rattle.mus_slots.proofs.Parts.{voice_all}
-use Rattle.law_slots.proofs.Columns.{IsSlotted}
 use Rattle.law_marks_in_range.specs.Ranks.{IsRanked, marks_ranks}
 use Rattle.law_marks_in_range.proofs.Between.{AreBetween, Ranked, both, bridges_ranked}
 use Rattle.law_marks_in_range.proofs.Planned.{ArePlanned}
@@ -85,13 +84,13 @@ rank_right r xs ys h =
     (Contains-append_right (marks_ranks xs) (marks_ranks ys) r h)
 
 module _ (keys : List ColumnKey) (lengths : List ℕ) (a b : ℕ) where
-  -- a voice whose columns are among those of the system, and whose stems are planned
-  pub record IsInside (v : DrawnVoice) : Type 0 where
-    pub slotted : IsSlotted keys lengths a b v
-    pub planned : ArePlanned v.measures
-
   abbrev pub own_columns : DrawnVoice → List ColumnKey
   own_columns v = staff_columns true lengths a b v
+
+  -- a voice that has a slot in each of its columns, and planned stems
+  pub record IsInside (v : DrawnVoice) : Type 0 where
+    pub keyed : (first : ℕ) → keys_of (voice_slots first lengths a b v) ≡ own_columns v
+    pub planned : ArePlanned v.measures
 
   abbrev at_key : ColumnKey → ℕ → List DrawnVoice → List Slot
   at_key k first voices = column_slots k (all_slots (slots_of_voices first lengths a b voices))
@@ -105,7 +104,7 @@ module _ (keys : List ColumnKey) (lengths : List ℕ) (a b : ℕ) where
       let count = length-append (slots_at k own) more in
       elim (Contains-append_cases (own_columns v) (flat_map own_columns voices) k has) [
         | inl here ↦
-            let some = some_at (λ s. s.key) k own (subst (λ ks. Contains ks k) (sym (h.0.slotted.keyed first)) here) in
+            let some = some_at (λ s. s.key) k own (subst (λ ks. Contains ks k) (sym (h.0.keyed first)) here) in
             omega (arith, count, some)
         | inr there ↦ let some = slots_here k (first + v.verses) voices h.1 there in omega (arith, count, some)
       ]

@@ -3,14 +3,13 @@
 use Rattle.std.proofs.Common.{◌≡◌, ◌∙◌, refl, sym, ap, subst, ℕ, suc, ◌+◌, ◌<◌, ◌≤◌, ◌==◌, ℤ, inl, inr, Bool, true}
 use Rattle.std.proofs.Common.{false, cond, if◌then◌else◌, List, [], ◌∷◌, ◌++◌, length, map, arith}
 use Rattle.std.proofs.lemmas.Bool.{ne_eqb}
-use Rattle.std.proofs.lemmas.Bool.Decides.{nat_tests}
 use Rattle.std.proofs.lemmas.Grind.{flat_map-append}
 use Rattle.std.proofs.lemmas.List.{append-nil, map-id}
 use Rattle.std.proofs.lemmas.List.Elements.{All-head, All-tail}
 use Rattle.std.specs.List.{All, AllByRecursion, Contains, flat_map, slice_index_or}
 use Rattle.mus_onsets.specs.declared.keys.ColumnKey.{ColumnKey}
 use Rattle.mus_onsets.specs.Keys.{IsInSystem, head_key}
-use Rattle.mus_onsets.specs.Order.{BelowAll, Rises, is_below, key_rank, same_key}
+use Rattle.mus_onsets.specs.Order.{BelowAll, Rises, key_rank, same_key}
 use Rattle.mus_onsets.proofs.RankLaws.{rank_at_place, rank_rises_more}
 use Rattle.mus_laid.specs.declared.drawn.Bridge.{Bridge}
 use Rattle.mus_laid.specs.declared.drawn.LaneInk.{LaneInk}
@@ -22,6 +21,7 @@ use Rattle.mus_words.specs.declared.texts.TextPlace.{TextPlace}
 use Rattle.mus_slots.specs.declared.slots.Slot.{Slot}
 use Rattle.mus_slots.specs.Staff.{column_at, column_marks, slots_at, written_marks}
 use Rattle.mus_slots.specs.Voice.{keys_of}
+use Rattle.mus_slots.proofs.Rising.{not_before}
 use Rattle.mus_slots.proofs.ByKey.{AtMostOne, at, in_order, is_same, one_at, rank_same, some_at}
 use Rattle.ps_heard.specs.declared.column.HeardColumn.{HeardColumn}
 use Rattle.ps_heard.specs.declared.column.HeardGlyph.{HeardGlyph}
@@ -242,11 +242,7 @@ columns_said keys place h ss bs rise own inside least =
     ∙ ap (λ t. columns_heard (slot_said keys ties h ++ t)) (after_head keys ties h.key ss inside.0 own.0)
     ∙ ap (λ r. columns_heard (column (r == 0) (drawn_notes h.drawn) (ties r) ∷ map (slot_column keys ties) ss)) least
 
--- nothing is before the head of a system
-not_before : (a : ℕ) (k : ColumnKey) → a ≤ k.measure → is_below k (head_key a) ≡ false
-unfolding is_below
-not_before a k from = grind (arith, nat_tests, from)
-
+-- the head of a system is its first column
 pub head_least : (lengths : List ℕ) (a b : ℕ) (keys : List ColumnKey)
     → All (IsInSystem lengths a b) keys → key_rank keys (head_key a) ≡ 0
 head_least lengths a b [] places = refl

@@ -23,7 +23,7 @@ false_not_true : false ≡ true → ⊥
 false_not_true h = cc
 
 -- ---- keys
-same_itself : (k : ColumnKey) → same_key k k ≡ true
+pub same_itself : (k : ColumnKey) → same_key k k ≡ true
 unfolding same_key
 same_itself k = grind (arith, nat_tests)
 
@@ -35,7 +35,7 @@ above_differs : (k l : ColumnKey) → is_below k l ≡ true → same_key k l ≡
 unfolding is_below same_key
 above_differs k l h = grind (arith, nat_tests)
 
-same_unless_below : (k l : ColumnKey) → is_below k l ≡ false → is_below l k ≡ false → same_key l k ≡ true
+pub same_unless_below : (k l : ColumnKey) → is_below k l ≡ false → is_below l k ≡ false → same_key l k ≡ true
 unfolding is_below same_key
 same_unless_below k l h g = grind (arith, nat_tests)
 

@@ -53,6 +53,11 @@ pub class_below : (m n t u i j : ℕ) (c d : Class)
 unfolding is_below
 class_below m n t u i j c d le later classes = grind (arith, nat_tests, le, later, classes)
 
+-- nothing is before the head of a system
+pub not_before : (a : ℕ) (k : ColumnKey) → a ≤ k.measure → is_below k (head_key a) ≡ false
+unfolding is_below
+not_before a k from = grind (arith, nat_tests, from)
+
 -- of one tick
 tick_below : (m t i j : ℕ) (c d : Class)
     → class_number c < class_number d → is_below (key_at m t c i) (key_at m t d j) ≡ true
