@@ -1,5 +1,5 @@
 -- The first column of a system is that of its head, and the last that of its last bar.
-use Rattle.std.proofs.Common.{◌≡◌, ℕ, ◌+◌, ◌-◌, ◌<◌, ◌≤◌, Bool, true, false, List, length, get_or, refl, ap, subst}
+use Rattle.std.proofs.Common.{◌≡◌, ℕ, ◌-◌, ◌<◌, ◌≤◌, Bool, true, false, List, length, get_or, refl, ap, subst}
 use Rattle.std.proofs.Common.{arith}
 use Rattle.std.proofs.lemmas.Bool.Decides.{nat_tests}
 use Rattle.std.proofs.lemmas.List.Elements.{Contains-get_or}
@@ -14,7 +14,8 @@ use Rattle.mus_onsets.proofs.Places.{places_of}
 use Rattle.mus_onsets.proofs.RankLaws.{rank_at_place, rank_less, rank_rises_more}
 use Rattle.mus_slots.proofs.ByKey.{is_same, same_unless_below}
 use Rattle.mus_slots.proofs.Rising.{not_before}
-use Rattle.mus_marks.proofs.Inside.{bars_inside, head_inside}
+use Rattle.mus_marks.proofs.Inside.{head_inside}
+use Rattle.law_marks_in_range.proofs.Bridged.{last_bar}
 
 -- a column after the last bar is a bar
 bar_class : (lengths : List ℕ) (a b : ℕ) (k : ColumnKey)
@@ -45,30 +46,28 @@ module _ (s : Score) (a b : ℕ) (keys : List ColumnKey) (good : IsGoodScore s) 
   abbrev lengths : List ℕ
   lengths = (timeline_of s).lengths
 
+  has_head : Contains keys (head_key a)
+  has_head = head_inside s lengths a b keys good some are
+
   pub some_keys : 0 < length keys
-  some_keys = let h = (head_inside s lengths a b keys good some are).1 in omega (arith, h)
+  some_keys = let h = has_head.1 in omega (arith, h)
 
   places : All (IsInSystem lengths a b) keys
   places = places_of s a b keys good order within are
 
   pub first_class : (d : ColumnKey) → (get_or keys 0 d).class ≡ Class.Head
-  first_class d = by (is_below (head_key a) (get_or keys 0 d)) refl
+  first_class d = by (is_below (head_key a) first) refl
     where
-      by : (c : Bool) → is_below (head_key a) (get_or keys 0 d) ≡ c → (get_or keys 0 d).class ≡ Class.Head
+      first : ColumnKey
+      first = get_or keys 0 d
+
+      by : (c : Bool) → is_below (head_key a) first ≡ c → first.class ≡ Class.Head
       by true e =
-          let less = rank_rises_more keys (head_key a) (get_or keys 0 d) e (head_inside s lengths a b keys good some are) in
+          let less = rank_rises_more keys (head_key a) first e has_head in
           let here = rank_at_place keys 0 d are.rise some_keys in absurd (omega (arith, less, here))
       by false e =
-          ap (λ k. k.class)
-          (is_same (get_or keys 0 d) (head_key a)
-          (same_unless_below (head_key a) (get_or keys 0 d) e
-          (not_before a (get_or keys 0 d) (places 0 d some_keys).from)))
-
-  last_bar : Contains keys (bar_key lengths (b - 1))
-  last_bar =
-      let last : a + (b - 1 - a) ≡ b - 1 = omega (arith, order) in
-      subst (λ m. Contains keys (bar_key lengths m)) last
-      (bars_inside s lengths a b keys good some within are (b - 1 - a) (omega (arith, order)))
+          let none = not_before a first (places 0 d some_keys).from in
+          ap (λ k. k.class) (is_same first (head_key a) (same_unless_below (head_key a) first e none))
 
   pub last_class : (d : ColumnKey) → (get_or keys (length keys - 1) d).class ≡ Class.Bar
   last_class d = by (is_below bar last) (is_below last bar) refl refl
@@ -86,6 +85,6 @@ module _ (s : Score) (a b : ℕ) (keys : List ColumnKey) (good : IsGoodScore s) 
       by true q e f = bar_class lengths a b last e (places (length keys - 1) d inside)
       by false true e f =
           let less = rank_rises_more keys last bar f (Contains-get_or keys (length keys - 1) d inside) in
-          let most = rank_less keys bar last_bar in
+          let most = rank_less keys bar (last_bar s a b keys good order within are some) in
           let here = rank_at_place keys (length keys - 1) d are.rise inside in absurd (omega (arith, less, most, here))
       by false false e f = ap (λ k. k.class) (is_same last bar (same_unless_below bar last e f))

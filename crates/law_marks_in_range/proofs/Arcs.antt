@@ -1,7 +1,7 @@
 -- Arcs go from the column of an event to that of a later one. The head comes before all notes of a system and the bar
 -- of its last measure after them, so an end that is cut by the system is outside of them too.
 use Rattle.std.proofs.Common.{◌≡◌, ◌∙◌, ℕ, zero, suc, ◌-◌, ◌<◌, ◌≤◌, Bool, true, false, nat_lt, nat_le}
-use Rattle.std.proofs.Common.{◌==◌, ◌&&◌, if◌then◌else◌, List, [], ◌∷◌, ◌++◌, length, map, reverse, Option, Some, None}
+use Rattle.std.proofs.Common.{◌==◌, ◌&&◌, if◌then◌else◌, List, [], ◌∷◌, ◌++◌, map, reverse, Option, Some, None}
 use Rattle.std.proofs.Common.{refl, sym, ap, subst, arith}
 use Rattle.std.proofs.lemmas.Bool.Decides.{nat_tests}
 use Rattle.std.proofs.lemmas.List.Elements.{All-contains, All-from_recursion, recursion_from_All}
@@ -79,10 +79,6 @@ IsAfter e x = (e.event < x.event) × (e.measure ≤ x.measure)
 abbrev EndsFrom : ArcEvent → SlurEnd → Type 0
 EndsFrom e end = (e.event ≤ end.event) × (e.measure ≤ end.measure)
 
-abbrev EachAfter : List ArcEvent → Type 0
-EachAfter [] = Unit {0}
-EachAfter (e ∷ es) = AllByRecursion (IsAfter e) es × EachAfter es
-
 following : (e : ArcEvent) (n m : ℕ) (es : List ArcEvent)
     → e.event < n → e.measure ≤ m → AreNumbered n m es → AllByRecursion (IsAfter e) es
 following e n m [] less from h = tt
@@ -92,12 +88,6 @@ following e n m (x ∷ xs) less from h =
       (omega (arith, own, less), omega (arith, on, from)),
       following e (suc n) x.measure xs (omega (arith, less)) (omega (arith, on, from)) h.2,
     )
-
-each_after : (n m : ℕ) (es : List ArcEvent) → AreNumbered n m es → EachAfter es
-each_after n m [] h = tt
-each_after n m (e ∷ es) h =
-    let own = h.0 in
-    (following e (suc n) e.measure es (omega (arith, own)) (omega arith) h.2, each_after (suc n) e.measure es h.2)
 
 copies_are : (P : SlurEnd → Type 0) (n : ℕ) (at : SlurEnd) → P at → AllByRecursion P (slur_copies n at)
 copies_are P zero at h = tt
@@ -160,16 +150,18 @@ ties_at_go : (e : ArcEvent) (es : List ArcEvent) → AllByRecursion (IsAfter e) 
 ties_at_go e [] h = tt
 ties_at_go e (next ∷ es) h = ties_go e 0 e.heads next h.0
 
-arcs_go : (es : List ArcEvent) → EachAfter es → AllByRecursion GoesOn (arcs_of es)
-arcs_go [] h = tt
-arcs_go (e ∷ es) h =
+arcs_go : (n m : ℕ) (es : List ArcEvent) → AreNumbered n m es → AllByRecursion GoesOn (arcs_of es)
+arcs_go n m [] h = tt
+arcs_go n m (e ∷ es) h =
+    let own = h.0 in
+    let after = following e (suc n) e.measure es (omega (arith, own)) (omega arith) h.2 in
     all_append GoesOn (slurs_at e es ++ ties_at e es) (arcs_of es)
-    (all_append GoesOn (slurs_at e es) (ties_at e es) (slurs_at_go e es h.0) (ties_at_go e es h.0)) (arcs_go es h.1)
+    (all_append GoesOn (slurs_at e es) (ties_at e es) (slurs_at_go e es after) (ties_at_go e es after))
+    (arcs_go (suc n) e.measure es h.2)
 
 pub voice_arcs_go : (v : Voice) → IsGoodVoice v → AllByRecursion GoesOn (drawn_voice v).arcs
 unfolding drawn_voice
-voice_arcs_go v good =
-    arcs_go (events_of_voice v) (each_after 0 0 (events_of_voice v) (measures_numbered 0 v.measures 0 good.ids))
+voice_arcs_go v good = arcs_go 0 0 (events_of_voice v) (measures_numbered 0 v.measures 0 good.ids)
 
 -- ---- the events at an arc's ends
 same_number : (m n : ℕ) → (m == n) ≡ true → m ≡ n
@@ -203,11 +195,6 @@ is_in ds m id (Some d) e there h =
 
 is_at : (ds : List DrawnMeasure) (m id : ℕ) (e : DrawnEvent) → event_at ds m id ≡ Some e → IsAt ds m id e
 is_at ds m id e h = is_in ds m id (slice_get ds m) e refl h
-
-some_measure : (ds : List DrawnMeasure) (m : ℕ) → m < length ds → (d : DrawnMeasure) × (slice_get ds m ≡ Some d)
-some_measure [] m h = absurd (omega (arith, h))
-some_measure (d ∷ ds) zero h = (d, refl)
-some_measure (d ∷ ds) (suc m) h = some_measure ds m (omega (arith, h))
 
 measure_of : (P : DrawnMeasure → Type 0) (ds : List DrawnMeasure) (m : ℕ) (d : DrawnMeasure)
     → AllByRecursion P ds → slice_get ds m ≡ Some d → P d
@@ -253,8 +240,8 @@ has_piece arc a b h = grind (arith, nat_tests)
 -- facts of the columns of a system of measures a to b - 1
 pub record AreColumns (keys : List ColumnKey) (lengths : List ℕ) (a b : ℕ) (ds : List DrawnMeasure) : Type 0 where
   pub order : a < b
-  pub enough : b ≤ length ds
   pub head : Contains keys (head_key a)
+  pub bar : Contains keys (bar_key lengths (b - 1))
   pub measures : HasMeasures keys lengths a (slice_range ds a b)
   pub places : All (IsInSystem lengths a b) keys
   pub on : AllGoOn ds
@@ -271,13 +258,6 @@ module _ (keys : List ColumnKey) (lengths : List ℕ) (a b : ℕ) (ds : List Dra
   unfolding arc_mark slur_mark tie_mark
   arc_goes left right piece arc from to ends =
       one_of arc.tie (tie_mark left right piece arc.head from to) (slur_mark left right piece from to) ends ends
-
-  has_last_bar : Contains keys (bar_key lengths (b - 1))
-  has_last_bar =
-      let order = are.order in
-      let enough = are.enough in
-      let at = some_measure ds (b - 1) (omega (arith, order, enough)) in
-      (measure_at keys lengths a b (b - 1) ds at.0 are.measures (omega (arith, order)) (omega (arith, order)) at.1).bar
 
   has_note : (m id : ℕ) (e : DrawnEvent) → a ≤ m → m < b → IsAt ds m id e → Contains keys (note_key m e)
   has_note m id e from to at =
@@ -314,7 +294,7 @@ module _ (keys : List ColumnKey) (lengths : List ℕ) (a b : ℕ) (ds : List Dra
       let order = are.order in
       record {
         first = are.head;
-        last = has_last_bar;
+        last = are.bar;
         rise =
             class_below a (b - 1) 0 (slice_index lengths (b - 1)) 0 0 Class.Head Class.Bar (omega (arith, order))
             (λ same. omega arith) (omega arith);
@@ -328,7 +308,7 @@ module _ (keys : List ColumnKey) (lengths : List ℕ) (a b : ℕ) (ds : List Dra
       let from = not_less arc.from a p in
       record {
         first = has_note arc.from arc.first e from begun at;
-        last = has_last_bar;
+        last = are.bar;
         rise = before_last arc.from arc.first e from begun at;
       }
   ends arc e f on begun over at at' false false p q = record {
