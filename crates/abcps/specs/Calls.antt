@@ -4,7 +4,9 @@ use Rattle.std.specs.List.{list_any}
 use Rattle.gen_book.specs.Book.{book}
 use Rattle.ps_text.specs.Document.{SpellsSheet}
 use Rattle.ps_text.specs.declared.sheet.Sheet.{Sheet}
-use Rattle.ps_read.specs.Answers.{IsDocumentRead, IsFirstFault}
+use Rattle.eng_reader.specs.Answers.{IsFirstFault}
+use Rattle.ps_read.specs.Answers.{IsDocumentRead}
+use Rattle.ps_read.specs.ReaderStates.{documents}
 use Rattle.ps_heard.specs.HeardText.{heard_text}
 use Rattle.ps_steps.specs.declared.paint.PagePaint.{PagePaint}
 use Rattle.ps_steps.specs.Steps.{Paints, Halts}
@@ -15,7 +17,7 @@ use Rattle.lay_cert.specs.declared.check.Verdict.{Verdict}
 use Rattle.lay_cert.specs.Answers.{IsJudged}
 use Rattle.lay_cert.specs.Listing.{Entry, IsListing}
 use Rattle.lay_cert.specs.Reports.{verdict_text}
-use Rattle.lay_cert.specs.ReaderStates as listing
+use Rattle.lay_cert.specs.ReaderStates.{listings}
 use Rattle.{abcps_words.specs.declared.command.Command.{Command}, set_tune.specs.Terms.{manner_by, unmoved}}
 use Rattle.abcps.specs.Called.{Called, IsQuietly}
 use Rattle.abcps.specs.Books.{CallsPages, CallsSystems, Tries}
@@ -91,11 +93,11 @@ CallsOne =
 -- Which inputs are refused. `inspect` and `hear` refuse what no sheet spells, and `check` what is not a listing, each
 -- with the number of the first bad line; `paint` refuses what the machine halts on.
 pub record IsNoDocument (text : List ℕ) (number : ℕ) : Type 0 where
-  pub first : IsFirstFault text number
+  pub first : IsFirstFault documents text number
   pub unspelled : (sheet : Sheet) → SpellsSheet sheet text → ⊥
 
 pub record IsNoListing (text : List ℕ) (number : ℕ) : Type 0 where
-  pub first : listing.IsFirstFault text number
+  pub first : IsFirstFault listings text number
   pub unspelled : (entries : List Entry) → IsListing text entries → ⊥
 
 abbrev pub Refuses : Command → List ℕ → Refusal → Type 0

@@ -3,24 +3,29 @@ use Rattle.std.proofs.Common.{◌≡◌, ℕ, ◌<◌, ◌≤◌, ◌^◌, ◌==
 use Rattle.std.proofs.Common.{refl, sym, ◌∙◌, ap, subst, arith, inl, codes, decimal, if◌then◌else◌}
 use Rattle.std.proofs.lemmas.Bool.{true≢false, eq-eqb}
 use Rattle.std.proofs.lemmas.Fmt.{decimal_injective}
-use mathlib.Core.List.{append_assoc}
+use Rattle.eng_reader.specs.Answers as lines
+use Rattle.eng_reader.specs.Grammar.{Leads, IsUnambiguous}
+use Rattle.eng_reader.specs.declared.reading.LineError.{LineError}
+use Rattle.eng_reader.proofs.Ways.{one_whole}
+use Rattle.eng_reader.proofs.Ways as ways
 use Rattle.lay_breaks.specs.Breaking.{last_from, IsPotential}
 use Rattle.lay_breaks.specs.Spans.{AreSpans, listed}
 use Rattle.lay_breaks.specs.declared.costs.Span.{Span}
 use Rattle.lay_cert.specs.Lines.{line_text, lines_then, sum_text}
 use Rattle.lay_cert.specs.Listing.{Entry, none_forced, IsListing, listing_lines}
 use Rattle.lay_cert.specs.ReaderStates.{ReaderState, begun, between, choosing, proving, ended, MayCome, state_after}
-use Rattle.lay_cert.specs.ReaderStates.{Leads, IsStuck}
+use Rattle.lay_cert.specs.ReaderStates.{listings}
+use Rattle.lay_cert.specs.Answers.{IsCause, cert_error}
 use Rattle.lay_cert.specs.Reported.{IsGood}
 use Rattle.lay_cert.specs.Laws.{GoodByLines, TellsOne, FaultsTellNone, NoPrefix}
 use Rattle.lay_cert.specs.declared.lines.ListingLine.{ListingLine}
 use Rattle.lay_cert.proofs.Forms.{span_text, tune_text}
 use Rattle.lay_cert.proofs.Grown.{listed_within}
 use Rattle.lay_cert.proofs.Sums.{total_within, least_within, one_potential}
-use Rattle.lay_cert.proofs.Steps.{step_good, leads_good, leads_lines}
+use Rattle.lay_cert.proofs.Steps.{leads_good, leads_lines}
 use Rattle.lay_cert.proofs.Through.{listing_leads}
 use Rattle.eng_lines.specs.Lines.{Lacks}
-use Rattle.eng_lines.proofs.Words.{lacks_both, decimal_lacks, one_cut, one_field, after_prefix, head_of}
+use Rattle.eng_lines.proofs.Words.{lacks_both, decimal_lacks, one_field, after_prefix, head_of}
 
 abbrev lacks_test : ℕ → List ℕ → Bool
 lacks_test b [] = true
@@ -208,40 +213,26 @@ one_line (choosing es x) (ListingLine.Total total) m h k g e = same_total es x t
 one_line (proving es x) (ListingLine.Potential bar least) m h k g e = same_potential es x bar least m h k
 one_line p l m h k g e = absurd h
 
--- From one state, good lines through the same text are the same lines.
-pub one_way : (p : ReaderState) (ls ms : List ListingLine) (es fs : List Entry) (more : List ℕ)
-    → IsGood p → Leads p ls (ended es) → Leads p ms (ended fs) → lines_then ls more ≡ lines_then ms []
-    → (es ≡ fs) × (more ≡ [])
-one_way p [] [] es fs more g h k e = (ap entries (sym h ∙ k), e)
-  where
-    entries : ReaderState → List Entry
-    entries (ended es) = es
-    entries p = []
-one_way p [] (m ∷ ms) es fs more g h k e = absurd (subst (λ p. MayCome p m) h k.0)
-one_way p (l ∷ ls) [] es fs more g h k e = absurd (subst (λ p. MayCome p l) k h.0)
-one_way p (l ∷ ls) (m ∷ ms) es fs more g h k e =
-    let c = one_cut 10 (line_text l) (line_text m) (lines_then ls more) (lines_then ms []) (may_lack p l h.0 g)
-    (may_lack p m k.0 g) e in
-    let s = one_line p l m h.0 k.0 g c.0 in
-    one_way (state_after p l) ls ms es fs more (step_good p l h.0 g) h.1
-    (subst (λ m. Leads (state_after p m) ms (ended fs)) (sym s) k.1) c.1
+abbrev entries_in : List Entry → ReaderState → List Entry
+entries_in es (ended fs) = fs
+entries_in es p = es
 
--- If the text is stuck, no lines lead through it.
-pub no_way : (p : ReaderState) (ls ms : List ListingLine) (q : ReaderState) (fs : List Entry) (rest : List ℕ)
-    → IsGood p → Leads p ls q → IsStuck q rest → Leads p ms (ended fs) → lines_then ls rest ≡ lines_then ms [] → ⊥
-no_way p [] [] q fs rest g h s k e = s.1 fs e (sym h ∙ k)
-no_way p [] (m ∷ ms) q fs rest g h s k e = s.0 m (lines_then ms []) e (subst (λ p. MayCome p m) h k.0)
-no_way p (l ∷ ls) [] q fs rest g h s k e = absurd (subst (λ p. MayCome p l) k h.0)
-no_way p (l ∷ ls) (m ∷ ms) q fs rest g h s k e =
-    let c = one_cut 10 (line_text l) (line_text m) (lines_then ls rest) (lines_then ms []) (may_lack p l h.0 g)
-    (may_lack p m k.0 g) e in
-    let is = one_line p l m h.0 k.0 g c.0 in
-    no_way (state_after p l) ls ms q fs rest (step_good p l h.0 g) h.1 s
-    (subst (λ m. Leads (state_after p m) ms (ended fs)) (sym is) k.1) c.1
+after_end : (es : List Entry) (l : ListingLine) → MayCome (ended es) l → ⊥
+after_end es l may = absurd may
+
+pub unambiguous : IsUnambiguous listings
+unambiguous = record {
+  unbroken = λ p l reached may. may_lack p l may (leads_good begun reached.0 p reached.1 tt);
+  one_state =
+      λ p l m reached may other e.
+      ap (state_after p) (sym (one_line p l m may other (leads_good begun reached.0 p reached.1 tt) e));
+  last = after_end;
+  one_whole = λ es fs e. ap (entries_in es) (sym e);
+}
 
 -- the lines that lead to the end are those of the listed entries
 pub reported_by_lines : (text : List ℕ) (ls : List ListingLine) (es : List Entry)
-    → text ≡ lines_then ls [] → Leads begun ls (ended es) → IsListing text es
+    → text ≡ lines_then ls [] → Leads listings begun ls (ended es) → IsListing text es
 reported_by_lines text ls es e h = record {
   entries = leads_good begun ls (ended es) h tt;
   lines = e ∙ ap (λ ls. lines_then ls []) (sym (leads_lines begun ls (ended es) h tt));
@@ -255,20 +246,18 @@ good_by_lines text es = (
 
 pub tells_one : TellsOne
 tells_one text es fs h k =
-    (one_way begun (listing_lines es) (listing_lines fs) es fs [] tt (listing_leads es h.entries)
-    (listing_leads fs k.entries) (sym h.lines ∙ k.lines)).0
+    one_whole listings unambiguous text fs es ((good_by_lines text fs).0 k) ((good_by_lines text es).0 h)
 
 pub faults_tell_none : FaultsTellNone
-faults_tell_none text number es h k =
-    no_way begun h.0 (listing_lines es) h.2 es h.1 tt h.4 h.5 (listing_leads es k.entries) (sym h.3 ∙ k.lines)
-
-lines_on : (ls : List ListingLine) (rest more : List ℕ) → lines_then ls rest ++ more ≡ lines_then ls (rest ++ more)
-lines_on [] rest more = refl
-lines_on (l ∷ ls) rest more =
-    append_assoc (line_text l) (10 ∷ lines_then ls rest) more ∙ ap (λ t. line_text l ++ 10 ∷ t) (lines_on ls rest more)
+faults_tell_none text number es fault h = fault.unfinished es ((good_by_lines text es).0 h)
 
 pub no_prefix : NoPrefix
 no_prefix text more es fs h k =
-    (one_way begun (listing_lines es) (listing_lines fs) es fs more tt (listing_leads es h.entries)
-    (listing_leads fs k.entries)
-    (sym (lines_on (listing_lines es) [] more) ∙ (ap (λ t. t ++ more) (sym h.lines) ∙ k.lines))).1
+    ways.no_prefix listings unambiguous text more es fs ((good_by_lines text es).0 h)
+    ((good_by_lines (text ++ more) fs).0 k)
+
+-- the cause of an error
+pub cause_of : (text : List ℕ) (error : LineError)
+    → lines.IsCause listings text error → IsCause text (cert_error error)
+cause_of text (LineError.Bad line) fault = (fault, λ es h. faults_tell_none text line es fault h)
+cause_of text LineError.Memory h = h

@@ -1,17 +1,16 @@
--- A step of the checker is one line, and its end is the end of the listing or the first fault.
+-- A step of the checker is one line, and its end is the end of the listing.
 use Rattle.std.proofs.Common.{◌≡◌, ◌≢◌, ℕ, ◌+◌, ◌^◌, ◌<◌, ◌≤◌, ◌⊎◌, inl, inr, true, List, [], ◌∷◌, ◌++◌, length, Option}
-use Rattle.std.proofs.Common.{Some, None, is_some, refl, sym, ◌∙◌, ap, subst, arith, slice_index_or, if◌then◌else◌}
+use Rattle.std.proofs.Common.{None, is_some, refl, sym, ◌∙◌, ap, subst, arith, slice_index_or, if◌then◌else◌}
 use Rattle.std.proofs.Common.{◌==◌}
 use Rattle.std.proofs.lemmas.Bool.{true≢false, eq-eqb, eqb-true, ne_eqb}
 use Rattle.std.proofs.lemmas.List.{length-append, nil_from_length}
 use Rattle.lay_breaks.specs.{Breaking.last_from, Spans.MayFollow, Spans.listed, declared.costs.Span.Span}
-use Rattle.lay_cert.specs.Lines.{line_text, lines_then}
-use Rattle.lay_cert.specs.Listing.{Entry, IsListing}
-use Rattle.lay_cert.specs.ReaderStates.{ReaderState, begun, between, choosing, proving, ended, MayCome, state_after}
-use Rattle.lay_cert.specs.ReaderStates.{Leads, IsStuck, IsFirstFault, last_tune_from, last_span_from}
+use Rattle.lay_cert.specs.Lines.{line_text}
+use Rattle.lay_cert.specs.Listing.{Entry}
+use Rattle.lay_cert.specs.ReaderStates.{ReaderState, between, choosing, proving, ended, MayCome}
+use Rattle.lay_cert.specs.ReaderStates.{listings, last_tune_from, last_span_from}
 use Rattle.lay_cert.specs.Verdicts.{AreVerdicts, IsVerdict}
-use Rattle.lay_cert.specs.Represents.{IsChoosing, Proves, Represents, NoneMayCome, IsStep, entry_so_far}
-use Rattle.lay_cert.specs.Answers.{IsJudged}
+use Rattle.lay_cert.specs.Represents.{IsChoosing, IsSound, Proves, Represents, entry_so_far}
 use Rattle.lay_cert.specs.declared.lines.ListingLine.{ListingLine}
 use Rattle.lay_cert.specs.declared.check.Judged.{Judged}
 use Rattle.lay_cert.specs.declared.check.Verdict.{Verdict}
@@ -19,16 +18,15 @@ use Rattle.lay_cert.specs.declared.state.Choosing.{Choosing}
 use Rattle.lay_cert.specs.declared.state.Proving.{Proving}
 use Rattle.lay_cert.specs.declared.state.ListingState.{ListingState}
 use Rattle.lay_cert.proofs.Grown.{listed_within, push_tune}
-use Rattle.lay_cert.proofs.Steps.{leads_good, leads_more, one_more}
+use Rattle.lay_cert.proofs.Steps.{one_more}
 use Rattle.lay_cert.proofs.Through.{begun_with}
-use Rattle.lay_cert.proofs.Alone.{apart, tune_alone, span_alone, choice_alone, may_lack, reported_by_lines}
-use Rattle.lay_cert.proofs.Alone.{faults_tell_none}
-use Rattle.eng_lines.{specs.Lines.Lacks, proofs.Words.one_cut, proofs.Words.lacks_none}
+use Rattle.lay_cert.proofs.Alone.{apart, tune_alone, span_alone, choice_alone}
+use Rattle.eng_reader.specs.Answers.{NoneComes, Comes}
 
 pub none_refused : (es : List Entry) (raw : List ℕ) (tune bars : ℕ)
     → raw ≡ line_text (ListingLine.Tune tune bars) → tune < 2 ^ 32 → bars < 2 ^ 32
     → (tune ≤ last_tune_from 0 es) ⊎ (4000 < bars)
-    → NoneMayCome (between es) raw
+    → NoneComes listings (between es) raw
 none_refused es raw tune bars is lt lb out (ListingLine.Tune t b) e m =
     let k0 = m.0 in
     let k1 = m.1 in
@@ -43,7 +41,7 @@ none_refused es raw tune bars is lt lb out l e m = absurd m
 pub none_span : (es : List Entry) (c : Choosing) (s : Span)
     → IsChoosing c → s.a < 2 ^ 32 → s.b < 2 ^ 32 → s.badness < 2 ^ 64
     → (c.breaks ≡ [] → MayFollow c.bars c.last s → ⊥)
-    → NoneMayCome (choosing es (entry_so_far c)) (line_text (ListingLine.OneSpan s))
+    → NoneComes listings (choosing es (entry_so_far c)) (line_text (ListingLine.OneSpan s))
 none_span es c s h la lb lc f (ListingLine.OneSpan t) e m =
     let ka = m.1.rises in
     let kb = m.1.within in
@@ -58,7 +56,7 @@ none_span es c s h la lb lc f l e m = absurd m
 
 pub none_break : (es : List Entry) (c : Choosing) (bar : ℕ)
     → IsChoosing c → bar < 2 ^ 32 → listed c.spans c.at bar ≡ None
-    → NoneMayCome (choosing es (entry_so_far c)) (line_text (ListingLine.Choose bar))
+    → NoneComes listings (choosing es (entry_so_far c)) (line_text (ListingLine.Choose bar))
 none_break es c bar h l f (ListingLine.Choose b) e m =
     let w = (listed_within c.bars None c.spans (last_from 0 c.breaks) b h.spans m).1 in
     let few = h.few in
@@ -73,7 +71,8 @@ none_break es c bar h l f m e k = absurd k
 pub none_choosing : (es : List Entry) (c : Choosing) (raw : List ℕ) → IsChoosing c
     → ((s : Span) → s.a < 2 ^ 32 → s.b < 2 ^ 32 → s.badness < 2 ^ 64 → raw ≡ line_text (ListingLine.OneSpan s) → ⊥)
     → ((bar : ℕ) → bar < 2 ^ 32 → raw ≡ line_text (ListingLine.Choose bar) → ⊥)
-    → (c.at ≡ c.bars → raw ≡ line_text (ListingLine.Total c.total) → ⊥) → NoneMayCome (choosing es (entry_so_far c)) raw
+    → (c.at ≡ c.bars → raw ≡ line_text (ListingLine.Total c.total) → ⊥)
+    → NoneComes listings (choosing es (entry_so_far c)) raw
 none_choosing es c raw h f g k (ListingLine.OneSpan s) e m =
     let ka = m.1.rises in
     let kb = m.1.within in
@@ -101,74 +100,18 @@ verdicts_more [] [] e j h t v = (t, v, tt)
 verdicts_more (x ∷ es) (k ∷ js) e j h t v = (h.0, h.1, verdicts_more es js e j h.2 t v)
 verdicts_more es js e j h t v = absurd h
 
-pub at_ended : (Q : ReaderState → Type 0) (js : List Judged) (p : ReaderState)
-    → Represents ListingState.Ended js p → ((es : List Entry) → AreVerdicts es js → Q (ended es)) → Q p
-at_ended Q js (ended es) h q = q es h
-at_ended Q js p h q = absurd h
+pub at_ended : (js : List Judged) (p : ReaderState)
+    → Represents ListingState.Ended js p → (es : List Entry) × (p ≡ ended es) × AreVerdicts es js
+at_ended js (ended es) h = (es, refl, h)
+at_ended js p h = absurd h
 
-lines_push : (ls : List ListingLine) (l : ListingLine) (rest : List ℕ)
-    → lines_then (ls ++ l ∷ []) rest ≡ lines_then ls (line_text l ++ 10 ∷ rest)
-lines_push [] l rest = refl
-lines_push (k ∷ ls) l rest = ap (λ t. line_text k ++ 10 ∷ t) (lines_push ls l rest)
-
--- What holds before each line: the lines so far lead to a reader state that the checker's state represents.
-pub record IsReading (text : List ℕ) (s : ListingState) (js : List Judged) (rest : List ℕ) (number : ℕ) : Type 0 where
-  pub lines : List ListingLine
-  pub place : ReaderState
-  pub so_far : text ≡ lines_then lines rest
-  pub leads : Leads begun lines place
-  pub stands : Represents s js place
-  pub counted : number ≡ length lines + 1
-
-pub reading_more : (text : List ℕ) (s t : ListingState) (js ks : List Judged) (rest raw following : List ℕ) (number : ℕ)
-    → IsReading text s js rest number
-    → rest ≡ raw ++ 10 ∷ following
-    → ((p : ReaderState) → Represents s js p → IsStep p raw ks (Some t))
-    → IsReading text t ks following (number + 1)
-reading_more text s t js ks rest raw following number h cut step =
-    let m = step h.place h.stands in let n = h.counted in let k = length-append h.lines (m.0 ∷ []) in
-    record {
-      lines = h.lines ++ m.0 ∷ [];
-      place = state_after h.place m.0;
-      so_far =
-          h.so_far
-          ∙ (ap (λ r. lines_then h.lines r) (cut ∙ ap (λ r. r ++ 10 ∷ following) m.1)
-          ∙ sym (lines_push h.lines m.0 following));
-      leads = leads_more begun h.lines h.place m.0 h.leads m.2;
-      stands = m.3;
-      counted = omega arith;
-    }
-
--- the cause of NotListing
-pub first_fault : (text : List ℕ) (s : ListingState) (js : List Judged) (rest : List ℕ) (number : ℕ)
-    (h : IsReading text s js rest number)
-    → IsStuck h.place rest → IsFirstFault text number × ((es : List Entry) → IsListing text es → ⊥)
-first_fault text s js rest number h stuck =
-    let f : IsFirstFault text number = (h.lines, rest, h.place, h.so_far, h.leads, stuck, h.counted) in
-    (f, (λ es k. faults_tell_none text number es f k))
-
-pub stuck_at_line : (text : List ℕ) (s : ListingState) (js ks : List Judged) (rest raw following : List ℕ) (number : ℕ)
-    (h : IsReading text s js rest number)
-    → rest ≡ raw ++ 10 ∷ following → Lacks 10 raw
-    → ((p : ReaderState) → Represents s js p → IsStep p raw ks None)
-    → IsStuck h.place rest
-stuck_at_line text s js ks rest raw following number h cut lacks step = (
-  (λ l more e m. let g = leads_good begun h.lines h.place h.leads tt in
-      let one = one_cut 10 raw (line_text l) following more lacks (may_lack h.place l m g) (sym cut ∙ e) in
-      step h.place h.stands l one.0 m),
-  (λ es e is.
-      let n = ap length (sym cut ∙ e) in let k = length-append raw (10 ∷ following) in absurd (omega (arith, n, k))),
-)
-
-pub stuck_at_end : (p : ReaderState) (rest : List ℕ)
-    → Lacks 10 rest → ((es : List Entry) → rest ≡ [] → p ≡ ended es → ⊥) → IsStuck p rest
-stuck_at_end p rest lacks f = ((λ l more e m. lacks_none 10 (line_text l) more rest lacks e), f)
-
-pub judged_all : (text : List ℕ) (js : List Judged) (rest : List ℕ) (number : ℕ)
-    → IsReading text ListingState.Ended js rest number → rest ≡ [] → IsJudged text js
-judged_all text js rest number h e =
-    at_ended (λ p. Leads begun h.lines p → IsJudged text js) js h.place h.stands
-    (λ es v l. (es, reported_by_lines text h.lines es (h.so_far ∙ ap (λ r. lines_then h.lines r) e) l, v)) h.leads
+pub is_sound : (s : ListingState) (js : List Judged) (p : ReaderState) → Represents s js p → IsSound s
+is_sound (ListingState.Choosing c) js (choosing es e) h = h.1
+is_sound (ListingState.Proving v) js (proving es e) h = h.1.kept
+is_sound ListingState.Begun js p h = tt
+is_sound (ListingState.Between last) js p h = tt
+is_sound ListingState.Ended js p h = tt
+is_sound s js p h = absurd h
 
 -- only the last checker state represents the end
 pub ended_stage : (s : ListingState) (js : List Judged) (es : List Entry)
@@ -188,43 +131,49 @@ verdict_on e p (Verdict.NotLeast t b bs) k = k
 pub proved_all : (es : List Entry) (js : List Judged) (e : Entry) (v : Proving) (raw : List ℕ)
     → AreVerdicts es js → Proves v e → v.next ≡ v.bars
     → raw ≡ line_text (ListingLine.Potential v.next (slice_index_or v.potentials v.next None))
-    → IsStep (proving es e) raw (js ++ record { tune = v.tune; verdict = v.verdict } ∷ [])
-    (Some (ListingState.Between v.tune))
+    → Comes listings (proving es e) raw
+    (Represents (ListingState.Between v.tune) (js ++ record { tune = v.tune; verdict = v.verdict } ∷ []))
 proved_all es js e v raw known h last is =
     let p : Option ℕ = slice_index_or v.potentials v.next None in
     let n = h.next in
     let b = h.bars in
     let all : length e.potentials ≡ e.bars = omega arith in
-    let j : Judged = record { tune = v.tune; verdict = v.verdict } in (
-      ListingLine.Potential v.next p,
-      is,
-      potential_here es e v h,
-      subst (λ t.
+    let j : Judged = record { tune = v.tune; verdict = v.verdict } in
+    record {
+      line = ListingLine.Potential v.next p;
+      spelled = is;
+      may = potential_here es e v h;
+      next =
+          subst (λ t.
           Represents (ListingState.Between v.tune) (js ++ j ∷ [])
           (if t then between (es ++ one_more e p ∷ []) else proving es (one_more e p)))
           (sym (eq-eqb (length e.potentials) e.bars all)) (
             h.tune ∙ sym (push_tune 0 es (one_more e p)),
             verdicts_more es js (one_more e p) j known h.tune (verdict_on e p v.verdict h.verdict),
-          ),
-    )
+          );
+    }
 
 -- the potential of a bar before it
 pub proved_one : (es : List Entry) (js : List Judged) (e : Entry) (v : Proving) (raw : List ℕ)
     → AreVerdicts es js → Proves v e → v.next ≢ v.bars
     → raw ≡ line_text (ListingLine.Potential v.next (slice_index_or v.potentials v.next None))
-    → IsStep (proving es e) raw js
-    (Some (ListingState.Proving
-    (record { tune = v.tune; bars = v.bars; potentials = v.potentials; next = v.next + 1; verdict = v.verdict })))
+    → Comes listings (proving es e) raw
+    (Represents
+    (ListingState.Proving
+    (record { tune = v.tune; bars = v.bars; potentials = v.potentials; next = v.next + 1; verdict = v.verdict }))
+    js)
 proved_one es js e v raw known h last is =
     let p : Option ℕ = slice_index_or v.potentials v.next None in
     let n = h.next in
     let b = h.bars in
     let part : length e.potentials ≢ e.bars = omega arith in
-    let le = h.kept.some_left in let some : v.next < v.bars = omega arith in (
-      ListingLine.Potential v.next p,
-      is,
-      potential_here es e v h,
-      subst (λ t.
+    let le = h.kept.some_left in let some : v.next < v.bars = omega arith in
+    record {
+      line = ListingLine.Potential v.next p;
+      spelled = is;
+      may = potential_here es e v h;
+      next =
+          subst (λ t.
           Represents
           (ListingState.Proving
           (record { tune = v.tune; bars = v.bars; potentials = v.potentials; next = v.next + 1; verdict = v.verdict }))
@@ -240,8 +189,8 @@ proved_one es js e v raw known h last is =
               verdict = verdict_on e p v.verdict h.verdict;
               potentials = h.potentials;
             },
-          ),
-    )
+          );
+    }
 
 pub no_length : (xs : List ℕ) → (length xs == 0) ≡ true → xs ≡ []
 no_length xs e = nil_from_length xs (eqb-true (length xs) 0 e)

@@ -5,11 +5,12 @@ use Rattle.std.proofs.lemmas.Bool.{cases_lt, true≢false, eqb-true, eqb-false}
 use Rattle.std.proofs.lemmas.List.{map-append, length-append, get_or_append_left}
 use Rattle.std.proofs.Math.Seq.{get_or-append_seam}
 use mathlib.Core.List.{append_assoc, append-nil}
+use Rattle.eng_reader.specs.Grammar.{Leads}
 use Rattle.lay_breaks.specs.Breaking.{IsLegal, last_from, IsPotential}
 use Rattle.lay_breaks.specs.Spans.{listed}
 use Rattle.lay_breaks.specs.declared.costs.Span.{Span}
 use Rattle.lay_cert.specs.Listing.{Entry, IsEntry, none_forced, entry_lines, all_lines, potential_lines}
-use Rattle.lay_cert.specs.ReaderStates.{ReaderState, begun, between, choosing, proving, MayCome, state_after, Leads}
+use Rattle.lay_cert.specs.ReaderStates.{ReaderState, begun, between, choosing, proving, MayCome, state_after, listings}
 use Rattle.lay_cert.specs.ReaderStates.{last_tune_from}
 use Rattle.lay_cert.specs.Reported.{IsProving, IsGood, lines_of_state, begun_lines}
 use Rattle.lay_cert.specs.declared.lines.ListingLine.{ListingLine}
@@ -192,23 +193,14 @@ step_lines (proving es e) (ListingLine.Potential bar least) m h =
     (λ l. reported) h.1.some_left
 step_lines p l m h = absurd m
 
-pub leads_good : (p : ReaderState) (ls : List ListingLine) (q : ReaderState) → Leads p ls q → IsGood p → IsGood q
+pub leads_good : (p : ReaderState) (ls : List ListingLine) (q : ReaderState)
+    → Leads listings p ls q → IsGood p → IsGood q
 leads_good p [] q h g = subst IsGood h g
 leads_good p (l ∷ ls) q h g = leads_good (state_after p l) ls q h.1 (step_good p l h.0 g)
 
 pub leads_lines : (p : ReaderState) (ls : List ListingLine) (q : ReaderState)
-    → Leads p ls q → IsGood p → lines_of_state q ≡ lines_of_state p ++ ls
+    → Leads listings p ls q → IsGood p → lines_of_state q ≡ lines_of_state p ++ ls
 leads_lines p [] q h g = ap lines_of_state (sym h) ∙ sym (append-nil (lines_of_state p))
 leads_lines p (l ∷ ls) q h g =
     leads_lines (state_after p l) ls q h.1 (step_good p l h.0 g)
     ∙ (ap (λ t. t ++ ls) (step_lines p l h.0 g) ∙ append_assoc (lines_of_state p) (l ∷ []) ls)
-
-pub leads_more : (p : ReaderState) (ls : List ListingLine) (q : ReaderState) (l : ListingLine)
-    → Leads p ls q → MayCome q l → Leads p (ls ++ l ∷ []) (state_after q l)
-leads_more p [] q l h m = (subst (λ p. MayCome p l) (sym h) m, ap (λ p. state_after p l) h)
-leads_more p (k ∷ ls) q l h m = (h.0, leads_more (state_after p k) ls q l h.1 m)
-
-pub leads_both : (p : ReaderState) (ls : List ListingLine) (q : ReaderState) (ms : List ListingLine) (r : ReaderState)
-    → Leads p ls q → Leads q ms r → Leads p (ls ++ ms) r
-leads_both p [] q ms r h k = subst (λ q. Leads q ms r) (sym h) k
-leads_both p (l ∷ ls) q ms r h k = (h.0, leads_both (state_after p l) ls q ms r h.1 k)

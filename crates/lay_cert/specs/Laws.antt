@@ -1,14 +1,15 @@
 -- The laws of listings.
 use Rattle.std.specs.Prelude.{◌≡◌, ℕ, ◌<◌, Bool, true, false, Option, None, List, [], ◌∷◌, ◌++◌, ◌↔◌}
+use Rattle.eng_reader.specs.Answers.{IsFirstFault, IsGoodThroughout}
 use Rattle.lay_breaks.specs.Breaking.{IsLegal}
 use Rattle.lay_cert.specs.Lines.{lines_then}
 use Rattle.lay_cert.specs.Listing.{Entry, IsListing, listing_lines, entries_text, none_forced}
-use Rattle.lay_cert.specs.ReaderStates.{IsFirstFault, IsGoodThroughout}
+use Rattle.lay_cert.specs.ReaderStates.{listings}
 use Rattle.lay_cert.specs.declared.lines.ListingLine.{ListingLine}
 
 -- a text is a listing exactly when each of its lines is good and the last is `end`
 abbrev pub GoodByLines : Type 0
-GoodByLines = (text : List ℕ) (es : List Entry) → IsListing text es ↔ IsGoodThroughout text es
+GoodByLines = (text : List ℕ) (es : List Entry) → IsListing text es ↔ IsGoodThroughout listings text es
 
 -- a text has at most one list of entries
 abbrev pub TellsOne : Type 0
@@ -16,7 +17,8 @@ TellsOne = (text : List ℕ) (es fs : List Entry) → IsListing text es → IsLi
 
 -- a text with a first fault is no listing
 abbrev pub FaultsTellNone : Type 0
-FaultsTellNone = (text : List ℕ) (number : ℕ) (es : List Entry) → IsFirstFault text number → IsListing text es → ⊥
+FaultsTellNone =
+    (text : List ℕ) (number : ℕ) (es : List Entry) → IsFirstFault listings text number → IsListing text es → ⊥
 
 -- no proper continuation of a listing is a listing
 abbrev pub NoPrefix : Type 0

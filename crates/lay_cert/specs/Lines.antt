@@ -1,7 +1,8 @@
 -- The lines of a listing, as they are printed.
 use Prim.Native.Char.{code}
-use Rattle.std.specs.Prelude.{ℕ, List, [], ◌∷◌, ◌++◌, Option, Some, None, codes, decimal}
+use Rattle.std.specs.Prelude.{ℕ, List, ◌∷◌, ◌++◌, Option, Some, None, codes, decimal}
 use Rattle.lay_cert.specs.declared.lines.ListingLine.{ListingLine}
+use Rattle.eng_reader.specs.Grammar as lines
 use Rattle.lay_cert.specs.declared.lines.ListingLine.TheVariants.{Listing, Tune, OneSpan, Choose, Total, Potential, End}
 
 -- a sum, or the word none
@@ -21,5 +22,4 @@ line_text End = codes "end"
 
 -- the lines, each ended by a line feed, and then what follows them
 abbrev pub lines_then : List ListingLine → List ℕ → List ℕ
-lines_then [] rest = rest
-lines_then (l ∷ ls) rest = line_text l ++ code "\n" ∷ lines_then ls rest
+lines_then = lines.lines_then line_text

@@ -1,11 +1,11 @@
 -- Which line may follow which: the lines of a listing, each judged by the lines before it alone.
-use Prim.Native.Char.{code}
-use Rattle.std.specs.Prelude.{◌≡◌, ℕ, ◌+◌, ◌<◌, ◌≤◌, ◌^◌, ◌==◌, List, [], ◌∷◌, ◌++◌, length, Option, Some, None, IsSome}
+use Rattle.std.specs.Prelude.{◌≡◌, ℕ, ◌<◌, ◌≤◌, ◌^◌, ◌==◌, List, [], ◌∷◌, ◌++◌, length, Option, Some, None, IsSome}
 use Rattle.std.specs.Prelude.{if◌then◌else◌}
+use Rattle.eng_reader.specs.Grammar.{Grammar}
 use Rattle.lay_breaks.specs.Breaking.{last_from, sum_from, IsPotential}
 use Rattle.lay_breaks.specs.Spans.{MayFollow, listed}
 use Rattle.lay_breaks.specs.declared.costs.Span.{Span}
-use Rattle.lay_cert.specs.Lines.{line_text, lines_then}
+use Rattle.lay_cert.specs.Lines.{line_text}
 use Rattle.lay_cert.specs.Listing.{Entry, none_forced}
 use Rattle.lay_cert.specs.declared.lines.ListingLine.{ListingLine}
 
@@ -80,28 +80,15 @@ state_after (choosing es e) (ListingLine.Total total) =
 state_after (proving es e) (ListingLine.Potential bar least) = with_potential es e least
 state_after p l = p
 
--- the lines are good, each after those before it, and lead from one state to another
-abbrev pub Leads : ReaderState → List ListingLine → ReaderState → Type 0
-Leads p [] q = p ≡ q
-Leads p (l ∷ ls) q = MayCome p l × Leads (state_after p l) ls q
-
--- no good line comes next, and this isn't the end
-abbrev pub IsStuck : ReaderState → List ℕ → Type 0
-IsStuck p rest =
-    ((l : ListingLine) (more : List ℕ) → rest ≡ line_text l ++ code "\n" ∷ more → MayCome p l → ⊥)
-    × ((es : List Entry) → rest ≡ [] → p ≡ ended es → ⊥)
-
--- the number of the first line that isn't good, or one past the last if all are good and the last isn't `end`
-abbrev pub IsFirstFault : List ℕ → ℕ → Type 0
-IsFirstFault text number =
-    (ls : List ListingLine)
-    × (rest : List ℕ)
-    × (p : ReaderState)
-    × (text ≡ lines_then ls rest)
-    × Leads begun ls p
-    × IsStuck p rest
-    × (number ≡ length ls + 1)
-
--- each line is good, and the last is `end`
-abbrev pub IsGoodThroughout : List ℕ → List Entry → Type 0
-IsGoodThroughout text es = (ls : List ListingLine) × (text ≡ lines_then ls []) × Leads begun ls (ended es)
+-- the lines of listings
+abbrev pub listings : Grammar
+listings = record {
+  State = ReaderState;
+  Line = ListingLine;
+  Whole = List Entry;
+  line_text = line_text;
+  begun = begun;
+  ended = ended;
+  MayCome = MayCome;
+  state_after = state_after;
+}

@@ -1,13 +1,11 @@
 -- How the checker stores what the lines so far have said.
-use Rattle.std.specs.Prelude.{◌≡◌, ℕ, ◌+◌, ◌≤◌, List, [], length, Option, None, MatchOption, slice_index_or}
+use Rattle.std.specs.Prelude.{◌≡◌, ℕ, ◌+◌, ◌≤◌, List, [], length, None, slice_index_or}
 use Rattle.lay_breaks.specs.Breaking.{IsLegal, last_from, sum_from, IsPotential}
 use Rattle.lay_breaks.specs.Spans.{AreSpans, listed}
 use Rattle.lay_cert.specs.Indexed.{IsIndexed}
-use Rattle.lay_cert.specs.Lines.{line_text}
 use Rattle.lay_cert.specs.Listing.{Entry, none_forced}
-use Rattle.lay_cert.specs.ReaderStates.{MayCome, state_after, last_tune_from, last_span_from}
+use Rattle.lay_cert.specs.ReaderStates.{last_tune_from, last_span_from}
 use Rattle.lay_cert.specs.Verdicts.{AreVerdicts, IsVerdict}
-use Rattle.lay_cert.specs.declared.lines.ListingLine.{ListingLine}
 use Rattle.lay_cert.specs.declared.check.Judged.{Judged}
 use Rattle.lay_cert.specs.declared.state.Choosing.{Choosing}
 use Rattle.lay_cert.specs.declared.state.Proving.{Proving}
@@ -61,13 +59,3 @@ Represents (ListingState.Choosing c) js (place.choosing es e) = AreVerdicts es j
 Represents (ListingState.Proving v) js (place.proving es e) = AreVerdicts es js × Proves v e
 Represents ListingState.Ended js (place.ended es) = AreVerdicts es js
 Represents s js p = ⊥
-
--- no good line in this state has this text
-abbrev pub NoneMayCome : place.ReaderState → List ℕ → Type 0
-NoneMayCome p raw = (l : ListingLine) → raw ≡ line_text l → MayCome p l → ⊥
-
--- what a step says: either no good line has the text, or this is the state after the line that has it
-abbrev pub IsStep : place.ReaderState → List ℕ → List Judged → Option ListingState → Type 0
-IsStep p raw js o =
-    MatchOption o (NoneMayCome p raw)
-    (λ s. (l : ListingLine) × (raw ≡ line_text l) × MayCome p l × Represents s js (state_after p l))

@@ -1,11 +1,13 @@
 ghost use Rattle.std.specs.Prelude.{◌≡◌, List, IfOk, IfErr};
 ghost use Rattle.lay_cert.specs.Laws.{GoodByLines, TellsOne, FaultsTellNone, NoPrefix};
 ghost use Rattle.lay_cert.specs.Listing.{Entry, IsListing};
-ghost use Rattle.lay_cert.specs.Answers.{IsJudged, IsCause};
-ghost use Rattle.lay_cert.specs.declared.check.CertError.TheVariants as answer;
+ghost use Rattle.lay_cert.specs.Answers.{IsJudged, IsCause, cert_error};
+ghost use Rattle.lay_cert.specs.ReaderStates.{listings};
+ghost use Rattle.lay_cert.specs.Represents.{Represents};
+ghost use Rattle.lay_cert.specs.Verdicts.{AreVerdicts};
 
-use crate::state::{ListingState, is_ended, step};
-use eng_lines::cut_at;
+use crate::state::{ListingState, state_after};
+use eng_reader::{LineError, LineReader, read_lines};
 use mus_units::{Memory, Row};
 use std::alloc::Global;
 
@@ -41,11 +43,44 @@ pub enum CertError {
     Memory,
 }
 
-impl From<Memory> for CertError {
-    ghost from_gives = { λ _ e. e ≡ answer.Memory };
+impl From<LineError> for CertError {
+    ghost from_gives = { λ e r. r ≡ cert_error e };
 
-    fn from(_: Memory) -> Self {
-        CertError::Memory
+    fn from(error: LineError) -> Self {
+        match error {
+            LineError::Bad { line } => CertError::NotListing { line },
+            LineError::Memory => CertError::Memory,
+        }
+    }
+}
+
+/// What the lines so far of a listing have said, and the verdicts so far.
+#[derive(Drop)]
+struct Checker {
+    state: ListingState,
+    judged: Row<Judged>,
+}
+
+impl LineReader<Row<Judged>> for Checker {
+    ghost grammar = { listings };
+
+    ghost is_at = { λ c p. Represents c.state c.judged p };
+
+    ghost says = { AreVerdicts };
+
+    fn step(self, alloc: Global, raw: &[u8]) -> Result<Option<Self>, Memory> {
+        let Checker { state, mut judged } = self;
+        match state_after(alloc, state, raw, &mut judged)? {
+            Some(state) => Ok(Some(Checker { state, judged })),
+            None => Ok(None),
+        }
+    }
+
+    fn finish(self) -> Option<Row<Judged>> {
+        match self.state {
+            ListingState::Ended => Some(self.judged),
+            _ => None,
+        }
     }
 }
 
@@ -57,25 +92,11 @@ pub fn check_listing(alloc: Global, bytes: &[u8]) -> Result<Row<Judged>, CertErr
     ensures judged { IfOk result (IsJudged bytes.now) }
     ensures cause { IfErr result (IsCause bytes.now) }
 {
-    let mut judged = Row::new(alloc);
-    let mut stage = ListingState::Begun;
-    let mut rest = bytes;
-    let mut line: u64 = 1;
-    while let Some((raw, following)) = cut_at(b'\n', rest) {
-        let Some(next) = step(alloc, stage, raw, &mut judged)? else {
-            return Err(CertError::NotListing { line });
-        };
-        stage = next;
-        rest = following;
-        line += 1;
-    }
-    if !rest.is_empty() {
-        return Err(CertError::NotListing { line });
-    }
-    if !is_ended(&stage) {
-        return Err(CertError::NotListing { line });
-    }
-    Ok(judged)
+    let checker = Checker {
+        state: ListingState::Begun,
+        judged: Row::new(alloc),
+    };
+    Ok(read_lines(alloc, checker, bytes)?)
 }
 
 /// The law that a text is a listing exactly when each of its lines is good given those before it and the last is

@@ -1,17 +1,17 @@
 ghost use Rattle.std.specs.Prelude.{◌≡◌, ◌≢◌, true, false, nat_lt, if◌then◌else◌, length, slice_set, ◌+◌, ◌^◌, ◌<◌};
-ghost use Rattle.std.specs.Prelude.{◌≤◌, ℕ, List, [], ◌∷◌, ◌++◌, Option, Some, IfOk, IfSome, MatchOption, OnOk};
+ghost use Rattle.std.specs.Prelude.{◌≤◌, ℕ, List, [], ◌∷◌, ◌++◌, Some, IfOk};
 ghost use Rattle.lay_breaks.specs.{Breaking.last_from, Spans.MayFollow, Spans.listed};
 ghost use Rattle.lay_cert.specs.Lines.{line_text};
 ghost use Rattle.lay_cert.specs.Listing.{Entry};
-ghost use Rattle.lay_cert.specs.ReaderStates.{last_tune_from};
-ghost use Rattle.lay_cert.specs.Represents.{IsChoosing, IsGoodProving, IsSound, Represents, IsStep, Proves};
+ghost use Rattle.eng_reader.specs.Answers.{IsStep};
+ghost use Rattle.lay_cert.specs.ReaderStates.{listings, last_tune_from};
+ghost use Rattle.lay_cert.specs.Represents.{IsChoosing, IsGoodProving, IsSound, Represents, Proves};
 ghost use Rattle.lay_cert.specs.Represents.{entry_so_far, entry_with_total};
 ghost use Rattle.lay_cert.specs.Verdicts.{AreVerdicts};
 ghost use Rattle.lay_cert.specs.declared.check.Judged.{Judged};
 ghost use Rattle.lay_cert.specs.declared.check.Verdict.TheVariants.{Least, NotLeast};
 ghost use Rattle.lay_cert.specs.ReaderStates as place;
 ghost use Rattle.lay_cert.specs.declared.lines.ListingLine.TheVariants as line;
-ghost use Rattle.lay_cert.specs.declared.state.ListingState.TheVariants as stages;
 
 use crate::check::{Judged, Verdict};
 use crate::costs::{Listed, cost_of};
@@ -61,7 +61,7 @@ pub enum ListingState {
 }
 
 fn after_nothing(alloc: Global, raw: &[u8]) -> Result<Option<ListingState>, Memory>
-    ensures { IfOk result (IsStep place.begun raw.now []) }
+    ensures { IfOk result (IsStep listings (λ s. Represents s []) place.begun raw.now) }
 {
     if is_line(alloc, raw, ListingLine::Listing)? {
         return Ok(Some(ListingState::Between { last: 0 }));
@@ -88,9 +88,8 @@ fn open_entry(alloc: Global, tune: u32, bars: u32) -> Result<Choosing, Memory>
 }
 
 fn after_entry(alloc: Global, last: u32, raw: &[u8]) -> Result<Option<ListingState>, Memory>
-    ensures step { (es : List Entry) (js : List Judged) → last ≡ last_tune_from 0 es → AreVerdicts es js
-        → IfOk result (IsStep (place.between es) raw.now js) }
-    ensures sound { IfOk result (λ o. IfSome o IsSound) }
+    ensures { (es : List Entry) (js : List Judged) → last ≡ last_tune_from 0 es → AreVerdicts es js
+        → IfOk result (IsStep listings (λ s. Represents s js) (place.between es) raw.now) }
 {
     if is_line(alloc, raw, ListingLine::End)? {
         return Ok(Some(ListingState::Ended));
@@ -264,9 +263,9 @@ fn prove(alloc: Global, choosing: Choosing) -> Result<Proving, Memory>
 fn span_next(choosing: Choosing, span: Span) -> Result<Option<ListingState>, Memory>
     requires sound { IsChoosing choosing }
     requires small { (span.a < 2 ^ 32) × (span.b < 2 ^ 32) × (span.badness < 2 ^ 64) }
-    ensures step { (es : List Entry) (js : List Judged) → AreVerdicts es js
-        → IfOk result (IsStep (place.choosing es (entry_so_far choosing)) (line_text (line.OneSpan span)) js) }
-    ensures sound { IfOk result (λ o. IfSome o IsSound) }
+    ensures { (es : List Entry) (js : List Judged) → AreVerdicts es js
+        → IfOk result (IsStep listings (λ s. Represents s js) (place.choosing es (entry_so_far choosing))
+        (line_text (line.OneSpan span))) }
 {
     if !choosing.breaks.as_slice().is_empty() || !may_follow(&choosing, &span) {
         return Ok(None);
@@ -277,9 +276,9 @@ fn span_next(choosing: Choosing, span: Span) -> Result<Option<ListingState>, Mem
 fn break_next(choosing: Choosing, bar: u32) -> Result<Option<ListingState>, Memory>
     requires sound { IsChoosing choosing }
     requires small { bar < 2 ^ 32 }
-    ensures step { (es : List Entry) (js : List Judged) → AreVerdicts es js
-        → IfOk result (IsStep (place.choosing es (entry_so_far choosing)) (line_text (line.Choose bar)) js) }
-    ensures sound { IfOk result (λ o. IfSome o IsSound) }
+    ensures { (es : List Entry) (js : List Judged) → AreVerdicts es js
+        → IfOk result (IsStep listings (λ s. Represents s js) (place.choosing es (entry_so_far choosing))
+        (line_text (line.Choose bar))) }
 {
     match next_cost(&choosing, bar) {
         Some(cost) => Ok(Some(ListingState::Choosing(add_break(choosing, bar, cost)?))),
@@ -293,9 +292,8 @@ fn after_heading(
     raw: &[u8],
 ) -> Result<Option<ListingState>, Memory>
     requires sound { IsChoosing choosing }
-    ensures step { (es : List Entry) (js : List Judged) → AreVerdicts es js
-        → IfOk result (IsStep (place.choosing es (entry_so_far choosing)) raw.now js) }
-    ensures sound { IfOk result (λ o. IfSome o IsSound) }
+    ensures { (es : List Entry) (js : List Judged) → AreVerdicts es js
+        → IfOk result (IsStep listings (λ s. Represents s js) (place.choosing es (entry_so_far choosing)) raw.now) }
 {
     if let Some(span) = read_span(raw) {
         return span_next(choosing, span);
@@ -317,9 +315,8 @@ fn after_total(
     judged: &mut Row<Judged>,
 ) -> Result<Option<ListingState>, Memory>
     requires kept { IsGoodProving proving }
-    ensures step { (es : List Entry) (e : Entry) → AreVerdicts es judged.old → Proves proving e
-        → IfOk result (IsStep (place.proving es e) raw.now judged.new) }
-    ensures sound { IfOk result (λ o. IfSome o IsSound) }
+    ensures { (es : List Entry) (e : Entry) → AreVerdicts es judged.old → Proves proving e
+        → IfOk result (IsStep listings (λ s. Represents s judged.new) (place.proving es e) raw.now) }
 {
     let bar = proving.next;
     let least = proving.potentials.as_slice()[bar as usize];
@@ -346,30 +343,22 @@ fn after_total(
     })))
 }
 
-/// Returns whether the last line was `end`.
-pub fn is_ended(stage: &ListingState) -> bool
-    ensures yes { result ≡ true → stage.now ≡ stages.Ended }
-    ensures no { result ≡ false → stage.now ≡ stages.Ended → ⊥ }
-{
-    matches!(stage, ListingState::Ended)
-}
-
 /// Returns the state after the line, or `None` if the line isn't good.
-pub fn step(
+pub fn state_after(
     alloc: Global,
-    stage: ListingState,
+    state: ListingState,
     raw: &[u8],
     judged: &mut Row<Judged>,
 ) -> Result<Option<ListingState>, Memory>
-    requires { IsSound stage }
-    ensures step { (p : place.ReaderState) → Represents stage judged.old p → IfOk result (IsStep p raw.now judged.new) }
-    ensures sound { IfOk result (λ o. IfSome o IsSound) }
+    requires { IsSound state }
+    ensures { (p : place.ReaderState) → Represents state judged.old p
+        → IfOk result (IsStep listings (λ s. Represents s judged.new) p raw.now) }
 {
-    match stage {
+    match state {
         ListingState::Begun => after_nothing(alloc, raw),
         ListingState::Between { last } => after_entry(alloc, last, raw),
-        ListingState::Choosing(reported) => after_heading(alloc, reported, raw),
-        ListingState::Proving(reported) => after_total(alloc, reported, raw, judged),
+        ListingState::Choosing(choosing) => after_heading(alloc, choosing, raw),
+        ListingState::Proving(proving) => after_total(alloc, proving, raw, judged),
         ListingState::Ended => Ok(None),
     }
 }

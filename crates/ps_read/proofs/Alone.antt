@@ -32,10 +32,16 @@ use Rattle.ps_text.proofs.Shown.{shown_octal, shown_open, shown_plain, shown_sla
 use Rattle.ps_text.proofs.Taken.{numbers_cons}
 use Rattle.eng_lines.specs.Lines.{Lacks}
 use Rattle.eng_lines.proofs.Words.{after_prefix, head_of, lacks_none, one_cut, one_field, tail_of}
-use Rattle.ps_read.specs.Laws.{OneSheet}
-use Rattle.ps_read.specs.Lines.{Line, after_line, line_text, lines_then}
-use Rattle.ps_read.specs.ReaderStates.{Leads, MayCome, after_prolog, state_after, system_ended, with_item, with_join}
-use Rattle.ps_read.specs.ReaderStates.{open_system, staff_with_mark, system_with_staff, with_page}
+use Rattle.eng_reader.specs.Answers as lines
+use Rattle.eng_reader.specs.Grammar.{IsUnambiguous}
+use Rattle.eng_reader.specs.declared.reading.LineError.{LineError}
+use Rattle.eng_reader.proofs.Ways.{one_whole}
+use Rattle.eng_reader.proofs.Ways as ways
+use Rattle.ps_read.specs.Answers.{IsCause, pages_error}
+use Rattle.ps_read.specs.Laws.{OneSheet, NoPrefix}
+use Rattle.ps_read.specs.Lines.{Line, after_line, line_text}
+use Rattle.ps_read.specs.ReaderStates.{documents, MayCome, after_prolog, state_after, system_ended, with_item}
+use Rattle.ps_read.specs.ReaderStates.{with_join, open_system, staff_with_mark, system_with_staff, with_page}
 use Rattle.ps_read.specs.Steps.{IsItemLine, IsJoinLine, IsNoMark}
 use Rattle.ps_read.specs.Titles.{joined_of, rules_of, title_of}
 use Rattle.ps_read.specs.declared.state.OpenPage.{OpenPage}
@@ -44,7 +50,7 @@ use Rattle.ps_read.specs.declared.state.ReaderState.{ReaderState}
 use Rattle.ps_text.specs.declared.sheet.Staff.{Staff}
 use Rattle.ps_text.specs.declared.sheet.Item.{Item}
 use Rattle.ps_read.proofs.Forms.{after_bottom, page_form, percent_bytes, rules_numbers, small_number, title_numbers}
-use Rattle.ps_read.proofs.Heads.{IsMarkStart, digits_keep, join_start, mark_start, may_lack, no_line}
+use Rattle.ps_read.proofs.Heads.{IsMarkStart, digits_keep, join_start, mark_start, may_lack}
 use Rattle.ps_read.proofs.Stepping.{from_system, on_boxed, on_closed, on_count, on_first_staff, on_framed, on_grestore}
 use Rattle.ps_read.proofs.Stepping.{on_headed, on_heading, on_join, on_mark, on_next_staff, on_page_start, on_rules}
 use Rattle.ps_read.proofs.Stepping.{on_system, on_title, on_titled, on_trailer, on_tune}
@@ -588,19 +594,26 @@ abbrev sheet_in : Sheet → ReaderState → Sheet
 sheet_in s (ReaderState.Ended t) = t
 sheet_in s p = s
 
-one_way : (p : ReaderState) (ls ms : List Line) (s t : Sheet)
-    → Leads p ls (ReaderState.Ended s) → Leads p ms (ReaderState.Ended t) → lines_then ls [] ≡ lines_then ms []
-    → t ≡ s
-one_way p [] [] s t h k e = ap (sheet_in s) (sym k ∙ h)
-one_way p [] (m ∷ ms) s t h k e = absurd (no_line (line_text m) (lines_then ms []) e)
-one_way p (l ∷ ls) [] s t h k e = absurd (no_line (line_text l) (lines_then ls []) (sym e))
-one_way p (l ∷ ls) (m ∷ ms) s t h k e =
-    let c = one_cut 10 (line_text l) (line_text m) (lines_then ls []) (lines_then ms []) (may_lack p l h.0)
-    (may_lack p m k.0) e in
-    one_way (state_after p l) ls ms s t h.1
-    (subst (λ q. Leads q ms (ReaderState.Ended t)) (one_state p l m h.0 k.0 c.0) k.1) c.1
+after_end : (s : Sheet) (l : Line) → MayCome (ReaderState.Ended s) l → ⊥
+after_end s l may = absurd may
+
+pub unambiguous : IsUnambiguous documents
+unambiguous = record {
+  unbroken = λ p l reached may. may_lack p l may;
+  one_state = λ p l m reached may other e. one_state p l m may other e;
+  last = after_end;
+  one_whole = λ s t e. ap (sheet_in s) (sym e);
+}
 
 pub one_sheet : OneSheet
-one_sheet text s t h k =
-    let w = document_way s text h in let v = document_way t text k in
-    one_way ReaderState.Begun w.0 v.0 s t w.2 v.2 (sym w.1 ∙ v.1)
+one_sheet text s t h k = one_whole documents unambiguous text s t (document_way s text h) (document_way t text k)
+
+-- the cause of an error
+pub cause_of : (text : List ℕ) (error : LineError)
+    → lines.IsCause documents text error → IsCause text (pages_error error)
+cause_of text (LineError.Bad line) fault = (fault, λ s spells. fault.unfinished s (document_way s text spells))
+cause_of text LineError.Memory h = h
+
+pub no_prefix : NoPrefix
+no_prefix text more s t h k =
+    ways.no_prefix documents unambiguous text more s t (document_way s text h) (document_way t (text ++ more) k)

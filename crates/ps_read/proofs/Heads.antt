@@ -2,8 +2,8 @@
 use Rattle.std.proofs.lemmas.Bool.{ne_eqb}
 use Rattle.std.proofs.lemmas.List.Folds.{list_all-append}
 use Rattle.std.proofs.Common.{◌≡◌, ◌≢◌, ℕ, ℤ, pos, negsuc, zero, suc, ◌/◌, ◌%◌, ◌≤◌, Bool, true, false, ◌==◌}
-use Rattle.std.proofs.Common.{if◌then◌else◌, List, [], ◌∷◌, ◌++◌, refl, sym, ap, subst, arith, codes, IsTrue, not}
-use Rattle.std.proofs.Common.{true≢false, length, length-append}
+use Rattle.std.proofs.Common.{if◌then◌else◌, List, [], ◌∷◌, ◌++◌, refl, sym, subst, arith, codes, IsTrue, not}
+use Rattle.std.proofs.Common.{true≢false, length}
 use Rattle.std.specs.Fmt.{decimal, signed_decimal, digits, digits_onto, digit_glyph}
 use Rattle.std.specs.List.{flat_map, list_all}
 use Rattle.mus_units.specs.declared.glyph.Glyph.{Glyph}
@@ -89,11 +89,6 @@ pub title_start : (x y : ℤ) (size : Size) (words : List ℕ) → IsMarkStart (
 unfolding title_line in_parentheses
 title_start x y size words = (λ e. omega arith, λ e. omega arith)
 
-abbrev pub same_start : ℕ → List ℕ → List ℕ → Bool
-same_start zero xs ys = true
-same_start (suc n) (x ∷ xs) (y ∷ ys) = if x == y then same_start n xs ys else false
-same_start (suc n) xs ys = true
-
 -- no LF inside
 abbrev is_whole : List ℕ → Bool
 is_whole s = list_all (λ b. not (b == 10)) s
@@ -169,7 +164,3 @@ may_lack (ReaderState.Items p) (line.Title x y size words) m =
     (grind (arith, list_all-append, numbers_whole, parentheses_whole words m.good.shown, size_whole size))
 may_lack (ReaderState.Marks o s) (line.Mark y k) m = lacks (mark_line y k) (rw m.0 (mark_whole s.y k m.1))
 may_lack p l m = lacks (line_text l) (grind (arith, list_all-append, decimal_whole, percent_whole, numbers_whole))
-
--- no text with a line end is empty
-pub no_line : (text more : List ℕ) → [] ≡ text ++ 10 ∷ more → ⊥
-no_line text more e = let n = ap length e in let k = length-append text (10 ∷ more) in omega (arith, n, k)

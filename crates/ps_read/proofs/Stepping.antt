@@ -29,9 +29,10 @@ use Rattle.ps_read.specs.declared.state.Joined.{Joined}
 use Rattle.ps_read.specs.declared.state.OpenPage.{OpenPage}
 use Rattle.ps_read.specs.declared.state.OpenSystem.{OpenSystem}
 use Rattle.ps_read.specs.declared.state.ReaderState.{ReaderState}
-use Rattle.ps_read.proofs.Heads.{mark_start, join_start, no_line}
+use Rattle.ps_read.proofs.Heads.{mark_start, join_start}
 use Rattle.ps_read.specs.Lines as line
 use Rattle.eng_lines.proofs.Words.{head_of, one_field, after_prefix}
+use Rattle.eng_reader.proofs.Ways.{no_line}
 
 -- two numbers after a prefix, or one, are determined by the text
 pair_alone : (p : List ℕ) (a b c d : ℕ)

@@ -21,11 +21,11 @@ use Rattle.ps_text.specs.declared.sheet.Staff.{Staff}
 use Rattle.ps_text.specs.declared.sheet.Item.{Item}
 use Rattle.ps_text.specs.declared.sheet.Page.{Page}
 use Rattle.ps_text.specs.declared.sheet.Sheet.{Sheet}
-use Rattle.ps_read.specs.Answers.{IsGoodThroughout}
+use Rattle.eng_reader.specs.{Grammar.{lines_then, Leads}, Answers.{IsGoodThroughout}}
 use Rattle.ps_read.specs.Steps.{IsItemLine}
-use Rattle.ps_read.specs.Lines.{Line, line_text, lines_then, after_line}
+use Rattle.ps_read.specs.Lines.{Line, line_text, after_line}
 use Rattle.ps_read.specs.ReaderStates.{frame_from_numbers, with_item, staff_with_mark, system_with_staff, system_ended}
-use Rattle.ps_read.specs.ReaderStates.{IsUnderTop, MayEnd, MayCome, after_prolog, state_after, Leads}
+use Rattle.ps_read.specs.ReaderStates.{IsUnderTop, MayEnd, MayCome, after_prolog, state_after, documents}
 use Rattle.ps_read.specs.declared.state.Joined.{Joined}
 use Rattle.ps_read.specs.declared.state.OpenPage.{OpenPage}
 use Rattle.ps_read.specs.declared.state.OpenSystem.{OpenSystem}
@@ -341,16 +341,16 @@ step_tells p l t m h = absurd m
 
 -- the lines that lead to a state spell it
 leads_tell : (p q : ReaderState) (ls : List Line) (t : List ℕ)
-    → Leads p ls q → Tells p t → Tells q (t ++ lines_then ls [])
+    → Leads documents p ls q → Tells p t → Tells q (t ++ lines_then line_text ls [])
 leads_tell p q [] t h k = subst (λ p. Tells p (t ++ [])) h (subst (λ t. Tells p t) (sym (append-nil t)) k)
 leads_tell p q (l ∷ ls) t h k =
     subst (λ t. Tells q t)
-    (append_assoc t (line_text l ++ 10 ∷ []) (lines_then ls [])
-    ∙ ap (λ v. t ++ v) (append_assoc (line_text l) (10 ∷ []) (lines_then ls [])))
+    (append_assoc t (line_text l ++ 10 ∷ []) (lines_then line_text ls [])
+    ∙ ap (λ v. t ++ v) (append_assoc (line_text l) (10 ∷ []) (lines_then line_text ls [])))
     (leads_tell (state_after p l) q ls (t ++ (line_text l ++ 10 ∷ [])) h.1 (step_tells p l t h.0 k))
 
 -- good lines up to the end spell a document
-pub lines_spell : (s : Sheet) (text : List ℕ) → IsGoodThroughout text s → SpellsSheet s text
+pub lines_spell : (s : Sheet) (text : List ℕ) → IsGoodThroughout documents text s → SpellsSheet s text
 lines_spell s text h =
     let reported = leads_tell ReaderState.Begun (ReaderState.Ended s) h.0 [] h.2 refl in
     record { good = reported.good; spelled = reported.spelled ∙ sym h.1 }

@@ -18,11 +18,12 @@ use Rattle.ps_text.specs.declared.sheet.Item.{Item}
 use Rattle.ps_text.specs.declared.sheet.Page.{Page}
 use Rattle.ps_text.specs.declared.sheet.Sheet.{Sheet}
 use Rattle.eng_lines.specs.Lines.{Lacks}
-use Rattle.ps_read.specs.Lines.{Line, line_text, lines_then, IsFirstLine}
+use Rattle.eng_reader.specs.{Grammar.{lines_then, Leads}, Answers.{IsGoodThroughout}}
+use Rattle.eng_reader.proofs.Ways.{lines_both, lines_on, leads_both}
+use Rattle.ps_read.specs.Lines.{Line, line_text, IsFirstLine}
 use Rattle.ps_read.specs.ReaderStates.{with_item, open_system, system_ended, IsUnderTop, MayEnd, MayCome, after_prolog}
-use Rattle.ps_read.specs.ReaderStates.{state_after, Leads}
+use Rattle.ps_read.specs.ReaderStates.{state_after, documents}
 use Rattle.ps_read.specs.Steps.{IsItemLine}
-use Rattle.ps_read.specs.Answers.{IsGoodThroughout}
 use Rattle.ps_read.specs.declared.state.Joined.{Joined}
 use Rattle.ps_read.specs.declared.state.OpenPage.{OpenPage}
 use Rattle.ps_read.specs.declared.state.OpenSystem.{OpenSystem}
@@ -33,31 +34,17 @@ use Rattle.ps_read.specs.Lines as line
 -- good lines lead from one state to another, and this is their text
 record Way (p q : ReaderState) (t : List ℕ) : Type 0 where
   lines : List Line
-  text : t ≡ lines_then lines []
-  leads : Leads p lines q
-
-pub lines_both : (ls ms : List Line) (rest : List ℕ) → lines_then (ls ++ ms) rest ≡ lines_then ls (lines_then ms rest)
-lines_both [] ms rest = refl
-lines_both (l ∷ ls) ms rest = ap (λ t. line_text l ++ 10 ∷ t) (lines_both ls ms rest)
-
-pub lines_on : (ls : List Line) (more : List ℕ) → lines_then ls [] ++ more ≡ lines_then ls more
-lines_on [] more = refl
-lines_on (l ∷ ls) more =
-    append_assoc (line_text l) (10 ∷ lines_then ls []) more ∙ ap (λ t. line_text l ++ 10 ∷ t) (lines_on ls more)
-
-pub leads_both : (p : ReaderState) (ls : List Line) (q : ReaderState) (ms : List Line) (r : ReaderState)
-    → Leads p ls q → Leads q ms r → Leads p (ls ++ ms) r
-leads_both p [] q ms r h k = subst (λ q. Leads q ms r) (sym h) k
-leads_both p (l ∷ ls) q ms r h k = (h.0, leads_both (state_after p l) ls q ms r h.1 k)
+  text : t ≡ lines_then line_text lines []
+  leads : Leads documents p lines q
 
 way_both : {p q r : ReaderState} {s t : List ℕ} → Way p q s → Way q r t → Way p r (s ++ t)
 way_both {p} {q} {r} {s} {t} a b = record {
   lines = a.lines ++ b.lines;
   text =
       ap (λ s. s ++ t) a.text
-      ∙ (ap (λ t. lines_then a.lines [] ++ t) b.text
-      ∙ (lines_on a.lines (lines_then b.lines []) ∙ sym (lines_both a.lines b.lines [])));
-  leads = leads_both p a.lines q b.lines r a.leads b.leads;
+      ∙ (ap (λ t. lines_then line_text a.lines [] ++ t) b.text
+      ∙ (lines_on line_text a.lines (lines_then line_text b.lines []) ∙ sym (lines_both line_text a.lines b.lines [])));
+  leads = leads_both documents p a.lines q b.lines r a.leads b.leads;
 }
 
 way_none : (p : ReaderState) → Way p p []
@@ -67,7 +54,8 @@ way_line : (p : ReaderState) (l : Line) → MayCome p l → Way p (state_after p
 way_line p l m = record { lines = l ∷ []; text = refl; leads = (m, refl) }
 
 way_as : {p q r : ReaderState} {s t : List ℕ} → Way p q s → q ≡ r → s ≡ t → Way p r t
-way_as {p} w e f = record { lines = w.lines; text = sym f ∙ w.text; leads = subst (λ q. Leads p w.lines q) e w.leads }
+way_as {p} w e f =
+    record { lines = w.lines; text = sym f ∙ w.text; leads = subst (Leads documents p w.lines) e w.leads }
 
 -- the fixed lines of the prolog
 abbrev lines_of : List (List ℕ) → List ℕ
@@ -387,7 +375,7 @@ end_way s =
     (way_line (ReaderState.Counted s) (line.Fixed (codes "%%EOF")) refl))) refl (simp append_assoc)
 
 -- the lines of a document are good
-pub document_way : (s : Sheet) (text : List ℕ) → SpellsSheet s text → IsGoodThroughout text s
+pub document_way : (s : Sheet) (text : List ℕ) → SpellsSheet s text → IsGoodThroughout documents text s
 unfolding document
 document_way s text h =
     let few = h.good.few in let pages = pages_way s.frame [] s.pages h.good.pages (omega (arith, few)) in

@@ -1,6 +1,6 @@
 -- The lines of a document, without the LF that ends each: the fixed ones, and those with numbers or words in them.
 use Prim.Native.Char.{code}
-use Rattle.std.specs.Prelude.{◌≡◌, ℕ, ℤ, ◌+◌, List, [], ◌∷◌, ◌++◌, length, drop}
+use Rattle.std.specs.Prelude.{◌≡◌, ℕ, ℤ, ◌+◌, List, ◌∷◌, ◌++◌, length, drop}
 use Rattle.{eng_lines.specs.Lines.{Lacks}, mus_units.specs.declared.glyph.Size.{Size}}
 use Rattle.ps_text.specs.Document.{rules_line, staff_line, join_line, system_line, title_line, tune_line, heading_line}
 use Rattle.ps_text.specs.Line.{mark_line}
@@ -32,11 +32,6 @@ line_text (Join top foot) = join_line top foot
 line_text (StaffHead k) = staff_line k
 line_text (Rules width y) = rules_line width y
 line_text (Mark y m) = mark_line y m
-
--- the lines, each ended by an LF, and then what follows them
-abbrev pub lines_then : List Line → List ℕ → List ℕ
-lines_then [] rest = rest
-lines_then (l ∷ ls) rest = line_text l ++ code "\n" ∷ lines_then ls rest
 
 -- what is left of a text after its first line
 abbrev pub after_line : List ℕ → List ℕ → List ℕ

@@ -10,8 +10,9 @@ use Rattle.ps_text.specs.declared.sheet.Staff.{Staff}
 use Rattle.ps_text.specs.declared.sheet.Item.{Item}
 use Rattle.ps_text.specs.declared.sheet.Sheet.{Sheet}
 use Rattle.glyph_paths.specs.Names.{glyphs_in_order}
+use Rattle.eng_reader.specs.Grammar.{Grammar}
 use Rattle.ps_read.specs.Lines.{Line, Fixed, Box, PageStart, Heading, Tune, Title, System, Join, StaffHead, Rules, Mark}
-use Rattle.ps_read.specs.Lines.{after_line, IsFirstLine}
+use Rattle.ps_read.specs.Lines.{line_text, after_line, IsFirstLine}
 use Rattle.ps_read.specs.declared.state.Joined.{Joined}
 use Rattle.ps_read.specs.declared.state.OpenPage.{OpenPage}
 use Rattle.ps_read.specs.declared.state.OpenSystem.{OpenSystem}
@@ -118,7 +119,15 @@ state_after (ReaderState.Trailer s) (Fixed text) = ReaderState.Counted s
 state_after (ReaderState.Counted s) (Fixed text) = ReaderState.Ended s
 state_after p l = p
 
--- the lines are good, each after those before it, and lead from one state to another
-abbrev pub Leads : ReaderState → List Line → ReaderState → Type 0
-Leads p [] q = p ≡ q
-Leads p (l ∷ ls) q = MayCome p l × Leads (state_after p l) ls q
+-- the lines of documents
+abbrev pub documents : Grammar
+documents = record {
+  State = ReaderState;
+  Line = Line;
+  Whole = Sheet;
+  line_text = line_text;
+  begun = ReaderState.Begun;
+  ended = ReaderState.Ended;
+  MayCome = MayCome;
+  state_after = state_after;
+}

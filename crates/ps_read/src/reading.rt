@@ -1,11 +1,9 @@
-ghost use Rattle.std.specs.Prelude.{IfOk, IfErr, MatchOption, ◌≡◌};
-ghost use Rattle.ps_read.specs.Answers.{IsDocumentRead, IsCause};
+ghost use Rattle.std.specs.Prelude.{IfOk, IfErr, ◌≡◌};
+ghost use Rattle.ps_read.specs.Answers.{IsDocumentRead, IsCause, pages_error};
 ghost use Rattle.ps_read.specs.Laws.{GoodByLines, NoPrefix, OneSheet};
 ghost use Rattle.ps_read.specs.Steps.{IsStep};
 ghost use Rattle.eng_lines.specs.Lines.{Lacks};
-ghost use Rattle.ps_read.specs.declared.state.ReaderState.TheVariants as at;
-ghost use Rattle.ps_read.specs.declared.reading.PagesError.TheVariants as answer;
-ghost use Rattle.ps_text.specs.declared.sheet.Sheet.{Sheet};
+ghost use Rattle.ps_read.specs.ReaderStates.{documents};
 
 use crate::pages::{
     after_count, after_heading, after_item, after_items, after_page, after_trailer,
@@ -13,7 +11,7 @@ use crate::pages::{
 use crate::prolog::{after_box, after_frame, after_nothing, after_title};
 use crate::state::ReaderState;
 use crate::systems::{after_mark, after_staff, after_system};
-use eng_lines::cut_at;
+use eng_reader::{LineError, LineReader, read_lines};
 use mus_units::Memory;
 use ps_text::Sheet;
 use std::alloc::Global;
@@ -28,20 +26,23 @@ pub enum PagesError {
     Memory,
 }
 
-impl From<Memory> for PagesError {
-    ghost from_gives = { λ _ e. e ≡ answer.Memory };
+impl From<LineError> for PagesError {
+    ghost from_gives = { λ e r. r ≡ pages_error e };
 
-    fn from(_: Memory) -> Self {
-        PagesError::Memory
+    fn from(error: LineError) -> Self {
+        match error {
+            LineError::Bad { line } => PagesError::NotPages { line },
+            LineError::Memory => PagesError::Memory,
+        }
     }
 }
 
 /// Returns the state after the line, or `None` if the line isn't good.
-fn step(alloc: Global, place: ReaderState, raw: &[u8]) -> Result<Option<ReaderState>, Memory>
+fn state_after(alloc: Global, state: ReaderState, raw: &[u8]) -> Result<Option<ReaderState>, Memory>
     requires { Lacks 10 raw.now }
-    ensures { IfOk result (IsStep place raw.now) }
+    ensures { IfOk result (IsStep state raw.now) }
 {
-    match place {
+    match state {
         ReaderState::Begun => Ok(after_nothing(raw)),
         ReaderState::Titled => after_title(alloc, raw),
         ReaderState::Boxed { wide, high, rest } => after_box(alloc, wide, high, rest, raw),
@@ -59,13 +60,22 @@ fn step(alloc: Global, place: ReaderState, raw: &[u8]) -> Result<Option<ReaderSt
     }
 }
 
-/// Returns the sheet that was read, after the last line of a document.
-fn sheet_of(place: ReaderState) -> Option<Sheet>
-    ensures { MatchOption result ((s : Sheet) → place ≡ at.Ended s → ⊥) (λ s. place ≡ at.Ended s) }
-{
-    match place {
-        ReaderState::Ended(sheet) => Some(sheet),
-        _ => None,
+impl LineReader<Sheet> for ReaderState {
+    ghost grammar = { documents };
+
+    ghost is_at = { λ s p. p ≡ s };
+
+    ghost says = { λ s t. t ≡ s };
+
+    fn step(self, alloc: Global, raw: &[u8]) -> Result<Option<Self>, Memory> {
+        state_after(alloc, self, raw)
+    }
+
+    fn finish(self) -> Option<Sheet> {
+        match self {
+            ReaderState::Ended(sheet) => Some(sheet),
+            _ => None,
+        }
     }
 }
 
@@ -76,24 +86,7 @@ pub fn read_document(alloc: Global, b: &[u8]) -> Result<Sheet, PagesError>
     ensures sheet { IfOk result (IsDocumentRead b.now) }
     ensures cause { IfErr result (IsCause b.now) }
 {
-    let mut place = ReaderState::Begun;
-    let mut rest = b;
-    let mut line: u64 = 1;
-    while let Some((raw, following)) = cut_at(b'\n', rest) {
-        let Some(next) = step(alloc, place, raw)? else {
-            return Err(PagesError::NotPages { line });
-        };
-        place = next;
-        rest = following;
-        line += 1;
-    }
-    if !rest.is_empty() {
-        return Err(PagesError::NotPages { line });
-    }
-    match sheet_of(place) {
-        Some(sheet) => Ok(sheet),
-        None => Err(PagesError::NotPages { line }),
-    }
+    Ok(read_lines(alloc, ReaderState::Begun, b)?)
 }
 
 /// The law that a sheet spells a text exactly when each of its lines is good given those before it and the last is

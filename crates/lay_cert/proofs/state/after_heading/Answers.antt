@@ -5,8 +5,8 @@ use Rattle.lay_cert.proofs.state.after_heading.Goals.{then-choosing-via-then-cho
 use Rattle.lay_cert.proofs.state.after_heading.Goals.{then-choosing-via-else-choosing+in_ok-is_line+then-not-branch}
 use Rattle.lay_cert.proofs.state.after_heading.Goals as goal
 
-pub returns-then-choosing-clause-step : goal.returns-then-choosing-clause-step
-returns-then-choosing-clause-step c es js v =
+pub returns-then-choosing : goal.returns-then-choosing
+returns-then-choosing c es js v =
     none_choosing es c.args.choosing c.args.raw.now c.requires.sound (λ s la lb lc e. c.in_default.ensures s la lb lc e)
     (λ bar l e. c.in_default-read_choice.ensures bar l e)
     (λ ends e. elim c.then-choosing.branch [
@@ -15,11 +15,12 @@ returns-then-choosing-clause-step c es js v =
           true≢false (sym (w.in_ok-is_line.ensures.1 e) ∙ w.if-not-branch.true)
     ])
 
-pub returns-clause-step : goal.returns-clause-step
-returns-clause-step c es js v =
-    let h = c.requires.sound in (
-      ListingLine.Total c.args.choosing.total,
-      c.in_ok-is_line.ensures.0 c.if-not-branch.false,
-      (sym h.at ∙ c.if-choosing.false, h.total),
-      (v, c.in_ok-prove.ensures),
-    )
+pub returns : goal.returns
+returns c es js v =
+    let h = c.requires.sound in
+    record {
+      line = ListingLine.Total c.args.choosing.total;
+      spelled = c.in_ok-is_line.ensures.0 c.if-not-branch.false;
+      may = (sym h.at ∙ c.if-choosing.false, h.total);
+      next = (v, c.in_ok-prove.ensures);
+    }

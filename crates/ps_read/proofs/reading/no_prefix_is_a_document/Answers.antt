@@ -1,4 +1,4 @@
-use Rattle.ps_read.proofs.Ending.{no_prefix}
+use Rattle.ps_read.proofs.Alone.{no_prefix}
 use Rattle.ps_read.proofs.reading.no_prefix_is_a_document.Goals as goal
 
 pub returns : goal.returns

@@ -1,46 +1,26 @@
-use Rattle.std.proofs.Common.{◌==◌, ◌∷◌, length, ap, sym, ◌∙◌, subst, arith, length-append, true≢false, eqb-true}
-use Rattle.std.proofs.lemmas.List.{nil_from_length}
-use Rattle.ps_read.specs.Steps.{IsStep}
-use Rattle.ps_read.proofs.Walked.{IsReading, first_fault, stuck_at_line, stuck_at_end, reading_more, read_all}
+use Rattle.std.proofs.Common.{sym, ap, ◌∙◌, subst, IfErr, Err}
+use Rattle.std.proofs.lemmas.Result.{err_from_is_err_and}
+use Rattle.ps_read.specs.Answers.{IsDocumentRead, IsCause}
+use Rattle.ps_read.proofs.Alone.{unambiguous, one_sheet, cause_of}
+use Rattle.ps_read.proofs.Telling.{lines_spell}
 use Rattle.ps_read.proofs.reading.read_document.Goals as goal
 
-pub returns-in_default-2-clause-cause : goal.returns-in_default-2-clause-cause
-returns-in_default-2-clause-cause c =
-    let l = c.loop-raw in let cut = c.in-Some.ensures in
-    first_fault c.args.b.now l.place l.rest.now l.line l.invariant.reading
-    (stuck_at_line l.place l.rest.now c.in-Some.raw.now c.in-Some.following.now cut.0 cut.1
-    (subst (λ o. IsStep l.place c.in-Some.raw.now o) c.in_default-2.is c.in_ok-next.ensures))
+pub read_lines-requires-clause-unambiguous : goal.read_lines-requires-clause-unambiguous
+read_lines-requires-clause-unambiguous c = unambiguous
 
-pub loop-raw-preserved : goal.loop-raw-preserved
-loop-raw-preserved c =
-    let l = c.loop-raw in let cut = c.in-Some.ensures in
-    let n = ap length cut.0 in
-    let k = length-append c.in-Some.raw.now (10 ∷ c.in-Some.following.now) in
-    let room = l.invariant.room in
-    record {
-      reading =
-          reading_more c.args.b.now l.place c.in-Some-2.next l.rest.now c.in-Some.raw.now c.in-Some.following.now l.line
-          l.invariant.reading cut.0 cut.1
-          (subst (λ o. IsStep l.place c.in-Some.raw.now o) c.in-Some-2.is c.in_ok-next.ensures);
-      room = omega (arith, n, k, room);
-    }
+pub returns-in_err-read_lines-clause-cause : goal.returns-in_err-read_lines-clause-cause
+returns-in_err-read_lines-clause-cause c =
+    let error = c.in_err-read_lines.field-0.0 in
+    let is = err_from_is_err_and c.from_residual.result c.from_residual.ensures.1 in
+    subst (λ r. IfErr r (IsCause c.args.b.now)) (sym (is.1 ∙ ap Err is.2))
+    (cause_of c.args.b.now error c.in_err-read_lines.ensures.cause)
 
-pub returns-then-not-is_empty-clause-cause : goal.returns-then-not-is_empty-clause-cause
-returns-then-not-is_empty-clause-cause c =
-    let l = c.loop-raw in
-    first_fault c.args.b.now l.place l.rest.now l.line l.invariant.reading
-    (stuck_at_end l.place l.rest.now c.in_default.ensures
-    (λ s e is. true≢false (sym (c.is_empty.ensures ∙ ap (λ xs. length xs == 0) e) ∙ c.if-not-is_empty.true)))
-
-pub returns-in-Some-sheet_of-clause-sheet : goal.returns-in-Some-sheet_of-clause-sheet
-returns-in-Some-sheet_of-clause-sheet c =
-    let l = c.loop-raw in
-    read_all c.args.b.now c.in-Some-sheet_of.sheet l.rest.now l.line
-    (subst (λ p. IsReading c.args.b.now p l.rest.now l.line) c.in-Some-sheet_of.ensures l.invariant.reading)
-    (nil_from_length l.rest.now (eqb-true (length l.rest.now) 0 (sym c.is_empty.ensures ∙ c.if-not-is_empty.false)))
-
-pub returns-in-None-clause-cause : goal.returns-in-None-clause-cause
-returns-in-None-clause-cause c =
-    let l = c.loop-raw in
-    first_fault c.args.b.now l.place l.rest.now l.line l.invariant.reading
-    (stuck_at_end l.place l.rest.now c.in_default.ensures (λ s e is. c.in-None.ensures s is))
+pub returns-clause-sheet : goal.returns-clause-sheet
+returns-clause-sheet c =
+    let text = c.args.b.now in
+    let said = c.in_ok-read_lines.ensures.said in
+    let spells = lines_spell said.0 text said.1 in
+    subst (IsDocumentRead text) (sym said.2) (record {
+      spells = spells;
+      only = λ t other. one_sheet text said.0 t spells other;
+    })
