@@ -1,5 +1,5 @@
 ghost use Rattle.std.specs.Prelude.{◌≡◌, OnOk};
-ghost use Rattle.{mus_ink.specs.Bars.{bar_glyph, glyph_if, bar_marks}, mus_laid.specs.Ranked.{inked}};
+ghost use Rattle.{mus_ink.specs.Bars.{bar_glyph, bar_marks}, mus_laid.specs.Ranked.{inked}};
 
 use crate::drawing::put_glyph;
 use mus_laid::MarkPen;
@@ -29,22 +29,18 @@ fn body(bar: Bar) -> Glyph
     }
 }
 
-fn put_if(pen: &mut MarkPen, yes: bool, glyph: Glyph) -> Result<(), Memory>
-    ensures { OnOk result (pen.new ≡ inked pen.old (glyph_if yes glyph)) }
-{
-    if yes {
-        put_glyph(pen, glyph, 0, 0)?;
-    }
-    Ok(())
-}
-
 /// Draws a bar: its body at dx 0 and dy 0, then the dots of a repeat that ends there, then those of a repeat that
 /// begins there.
 #[tactic(auto, unfolding(crate::specs::Bars::bar_marks))]
 pub fn put_bar(pen: &mut MarkPen, bar: Bar) -> Result<(), Memory>
     ensures { OnOk result (pen.new ≡ inked pen.old (bar_marks bar)) }
 {
-    put_if(pen, true, body(bar))?;
-    put_if(pen, bar.end, Glyph::Dl)?;
-    put_if(pen, bar.start, Glyph::Dr)
+    put_glyph(pen, body(bar), 0, 0)?;
+    if bar.end {
+        put_glyph(pen, Glyph::Dl, 0, 0)?;
+    }
+    if bar.start {
+        put_glyph(pen, Glyph::Dr, 0, 0)?;
+    }
+    Ok(())
 }

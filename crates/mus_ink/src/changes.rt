@@ -1,7 +1,6 @@
 ghost use Rattle.std.specs.Prelude.{◌≡◌, ◌≤◌, length, IfSome, OnOk};
 ghost use Rattle.mus_units.specs.Good.{AreGoodSigns, IsGoodKey};
-ghost use Rattle.mus_ink.specs.Changes.{head_marks, clef_if, after_clef, new_entries, key_if, new_count, count_if};
-ghost use Rattle.mus_ink.specs.Changes.{change_marks};
+ghost use Rattle.mus_ink.specs.Changes.{change_marks, count_if, head_marks, key_if};
 ghost use Rattle.mus_laid.specs.Ranked.{inked};
 
 use crate::distances::{CLEF_SIDE, CLEF_WIDTH, ENTRY_GAP, ENTRY_STEP, SIGNATURE_SIDE};
@@ -27,57 +26,7 @@ pub fn put_head(
     put_meter_if(pen, SIGNATURE_SIDE + ENTRY_STEP * signs.len() as u32, meter)
 }
 
-fn put_clef_if(pen: &mut MarkPen, clef: Option<Clef>) -> Result<(), Memory>
-    ensures { OnOk result (pen.new ≡ inked pen.old (clef_if clef)) }
-{
-    match clef {
-        None => Ok(()),
-        Some(clef) => put_clef(pen, 0, clef),
-    }
-}
-
-/// Returns how far a change of clef moves what follows it.
-fn after_clef(clef: Option<Clef>) -> u32
-    ensures value { result ≡ after_clef clef }
-    ensures most { result ≤ 1300 }
-{
-    match clef {
-        None => 0,
-        Some(_) => CLEF_WIDTH,
-    }
-}
-
 /// Draws the signature of a new key or, if it has no entries, a natural for each entry of the old one.
-fn put_new_entries(
-    pen: &mut MarkPen,
-    clef: Clef,
-    first: u32,
-    old: &[Sign],
-    signs: &[Sign],
-) -> Result<(), Memory>
-    requires near { first ≤ 2000 }
-    requires old { length old.now ≤ 7 }
-    requires few { length signs.now ≤ 7 }
-    ensures { OnOk result (pen.new ≡ inked pen.old (new_entries clef first old.now signs.now)) }
-{
-    match signs {
-        [] => put_entries(pen, clef, true, first, old),
-        _ => put_entries(pen, clef, false, first, signs),
-    }
-}
-
-fn new_count(old: &[Sign], signs: &[Sign]) -> usize
-    requires old { length old.now ≤ 7 }
-    requires few { length signs.now ≤ 7 }
-    ensures value { result ≡ new_count old.now signs.now }
-    ensures most { result ≤ 7 }
-{
-    match signs {
-        [] => old.len(),
-        _ => signs.len(),
-    }
-}
-
 fn put_key_if(
     pen: &mut MarkPen,
     clef: Clef,
@@ -92,7 +41,10 @@ fn put_key_if(
 {
     match key {
         None => Ok(()),
-        Some(key) => put_new_entries(pen, clef, first, old, key.signs.as_slice()),
+        Some(key) => match key.signs.as_slice() {
+            [] => put_entries(pen, clef, true, first, old),
+            signs => put_entries(pen, clef, false, first, signs),
+        },
     }
 }
 
@@ -105,7 +57,10 @@ fn count_if(old: &[Sign], key: &Option<Key>) -> usize
 {
     match key {
         None => 0,
-        Some(key) => new_count(old, key.signs.as_slice()),
+        Some(key) => match key.signs.as_slice() {
+            [] => old.len(),
+            signs => signs.len(),
+        },
     }
 }
 
@@ -123,9 +78,14 @@ pub fn put_change(
     requires key { IfSome changes.now.key IsGoodKey }
     ensures { OnOk result (pen.new ≡ inked pen.old (change_marks clef old.now changes.now)) }
 {
-    let first = after_clef(changes.clef);
+    let first = match changes.clef {
+        None => 0,
+        Some(clef) => {
+            put_clef(pen, 0, clef)?;
+            CLEF_WIDTH
+        }
+    };
     let count = count_if(old, &changes.key) as u32;
-    put_clef_if(pen, changes.clef)?;
     put_key_if(pen, clef, first + ENTRY_GAP, old, &changes.key)?;
     put_meter_if(pen, first + ENTRY_STEP * count, changes.meter)
 }

@@ -1,6 +1,5 @@
 ghost use Rattle.std.specs.Prelude.{◌≡◌};
-ghost use Rattle.mus_ink.specs.Kinds.{clef_by, clef_row, deco_glyph, entries_at, flag_glyph, head_glyph, rest_by};
-ghost use Rattle.mus_ink.specs.Kinds.{rest_row, sign_glyph, stub_glyph};
+ghost use Rattle.mus_ink.specs.Kinds.{clef_row, deco_glyph, entries_at, head_glyph, rest_row, sign_glyph};
 
 use mus_units::{Alter, Base, Clef, Deco, Glyph};
 
@@ -47,46 +46,35 @@ fn entries_at(f: i32, c: i32, g: i32, d: i32, a: i32, e: i32, b: i32) -> Entries
     }
 }
 
-fn clef_by(glyph: Glyph, line: i32, sharps: Entries, flats: Entries) -> ClefRow
-    ensures { result ≡ clef_by glyph line sharps flats }
-{
-    ClefRow {
-        glyph,
-        line,
-        sharps,
-        flats,
-    }
-}
-
 /// Returns how a clef is drawn.
 pub(crate) fn clef_row(clef: Clef) -> ClefRow
     ensures { result ≡ clef_row clef }
 {
     match clef {
-        Clef::Treble => clef_by(
-            Glyph::Cg,
-            2,
-            entries_at(8, 5, 9, 6, 3, 7, 4),
-            entries_at(1, 5, 2, 6, 3, 7, 4),
-        ),
-        Clef::Bass => clef_by(
-            Glyph::Cf,
-            6,
-            entries_at(6, 3, 7, 4, 1, 5, 2),
-            entries_at(-1, 3, 0, 4, 1, 5, 2),
-        ),
-        Clef::Alto => clef_by(
-            Glyph::Cc,
-            4,
-            entries_at(7, 4, 8, 5, 2, 6, 3),
-            entries_at(0, 4, 1, 5, 2, 6, 3),
-        ),
-        Clef::Tenor => clef_by(
-            Glyph::Cc,
-            6,
-            entries_at(2, 6, 3, 7, 4, 8, 5),
-            entries_at(2, 6, 3, 7, 4, 8, 5),
-        ),
+        Clef::Treble => ClefRow {
+            glyph: Glyph::Cg,
+            line: 2,
+            sharps: entries_at(8, 5, 9, 6, 3, 7, 4),
+            flats: entries_at(1, 5, 2, 6, 3, 7, 4),
+        },
+        Clef::Bass => ClefRow {
+            glyph: Glyph::Cf,
+            line: 6,
+            sharps: entries_at(6, 3, 7, 4, 1, 5, 2),
+            flats: entries_at(-1, 3, 0, 4, 1, 5, 2),
+        },
+        Clef::Alto => ClefRow {
+            glyph: Glyph::Cc,
+            line: 4,
+            sharps: entries_at(7, 4, 8, 5, 2, 6, 3),
+            flats: entries_at(0, 4, 1, 5, 2, 6, 3),
+        },
+        Clef::Tenor => ClefRow {
+            glyph: Glyph::Cc,
+            line: 6,
+            sharps: entries_at(2, 6, 3, 7, 4, 8, 5),
+            flats: entries_at(2, 6, 3, 7, 4, 8, 5),
+        },
     }
 }
 
@@ -115,23 +103,18 @@ pub(crate) fn head_glyph(base: Base) -> Glyph
     }
 }
 
-fn rest_by(glyph: Glyph, line: i32) -> RestRow
-    ensures { result ≡ rest_by glyph line }
-{
-    RestRow { glyph, line }
-}
-
 /// Returns how a rest of a base is drawn. Rests shorter than a quarter have the glyph once for each flag.
 pub(crate) fn rest_row(base: Base) -> RestRow
     ensures { result ≡ rest_row base }
 {
-    match base {
-        Base::Breve => rest_by(Glyph::R0, 4),
-        Base::Whole => rest_by(Glyph::R1, 6),
-        Base::Half => rest_by(Glyph::R2, 4),
-        Base::Quarter => rest_by(Glyph::R4, 4),
-        _ => rest_by(Glyph::R8, 4),
-    }
+    let (glyph, line) = match base {
+        Base::Breve => (Glyph::R0, 4),
+        Base::Whole => (Glyph::R1, 6),
+        Base::Half => (Glyph::R2, 4),
+        Base::Quarter => (Glyph::R4, 4),
+        _ => (Glyph::R8, 4),
+    };
+    RestRow { glyph, line }
 }
 
 /// Returns the glyph of a decoration. `None` for dynamics, fingerings and decorations that draw nothing.
@@ -153,18 +136,4 @@ pub(crate) fn deco_glyph(deco: &Deco) -> Option<Glyph>
         Deco::Kn => Some(Glyph::Kn),
         Deco::Below(_) | Deco::Above(_) | Deco::Quiet(_) => None,
     }
-}
-
-/// Returns the glyph of a flag, by the direction of its stem.
-pub(crate) fn flag_glyph(up: bool) -> Glyph
-    ensures { result ≡ flag_glyph up }
-{
-    if up { Glyph::Fu } else { Glyph::Fd }
-}
-
-/// Returns the glyph of a stub: to the right at the first event of a beam, to the left at others.
-pub(crate) fn stub_glyph(first: bool) -> Glyph
-    ensures { result ≡ stub_glyph first }
-{
-    if first { Glyph::Sr } else { Glyph::Sl }
 }

@@ -1,6 +1,4 @@
 ghost use Rattle.std.specs.{Prelude.{◌≡◌, ◌∷◌, [], OnOk}, List.list_all, Option.is_none};
-ghost use Rattle.mus_units.specs.Pitch.{height_of};
-ghost use Rattle.mus_ink.specs.Drawing.{cut_dy, glyph};
 ghost use Rattle.mus_ink.specs.Notes.{dy_of, highest_dy, lowest_dy, sign_mark, sign_marks, ledger_marks, note_heads};
 ghost use Rattle.mus_ink.specs.Notes.{dot_marks, heads_marks};
 ghost use Rattle.mus_laid.specs.Ranked.{inked};
@@ -9,20 +7,13 @@ use crate::drawing::{cut_dy, put_glyph, steps_dy};
 use crate::kinds::{head_glyph, sign_glyph};
 use mus_laid::MarkPen;
 use mus_stems::{Spot, StemPlan};
-use mus_units::{Alter, Base, Clef, Glyph, Head, Memory, height};
-
-/// Returns the height of a head in a clef, in steps.
-fn steps(clef: Clef, head: Head) -> i32
-    ensures { result ≡ cut_dy (height_of head.pitch clef) }
-{
-    cut_dy(height(head.pitch, clef))
-}
+use mus_units::{Base, Clef, Glyph, Head, Memory, height};
 
 /// Returns the dy of a head, clamped to ±2^30.
 pub fn head_dy(clef: Clef, head: Head) -> i32
     ensures { result ≡ dy_of clef head }
 {
-    steps_dy(steps(clef, head))
+    steps_dy(cut_dy(height(head.pitch, clef)))
 }
 
 /// Returns the greatest of a dy and those of heads.

@@ -1,14 +1,13 @@
-ghost use Rattle.std.specs.Prelude.{◌≡◌, ◌+◌, ◌*◌, ◌∷◌, [], pos, OnOk};
+ghost use Rattle.std.specs.Prelude.{◌≡◌, ◌+◌, ◌*◌, ◌∷◌, pos, OnOk};
 ghost use Rattle.mus_units.specs.declared.glyph.Glyph.TheVariants.{Dt};
 ghost use Rattle.mus_ink.specs.Distances.{dot_side, dot_step, rest_dot_line};
 ghost use Rattle.mus_ink.specs.Drawing.{glyph};
-ghost use Rattle.mus_ink.specs.Rests.{raised, rest_dy, short_dy, short_rests, rest_glyph, rest_glyphs, rest_dots};
-ghost use Rattle.mus_ink.specs.Rests.{rest_marks};
+ghost use Rattle.mus_ink.specs.Rests.{raised, rest_dots, rest_glyphs, rest_marks, short_dy, short_rests};
 ghost use Rattle.mus_laid.specs.Ranked.{inked};
 
 use crate::distances::{DOT_SIDE, DOT_STEP, REST_DOT_LINE, REST_STEP};
 use crate::drawing::{cut_dy, put_glyph, steps_dy};
-use crate::kinds::{RestRow, rest_row};
+use crate::kinds::rest_row;
 use mus_laid::MarkPen;
 use mus_score::Look;
 use mus_units::{Base, Glyph, Memory, Value};
@@ -19,12 +18,6 @@ fn raised(raise: i32, dy: i32) -> i32
     ensures { result ≡ raised raise dy }
 {
     cut_dy(i64::from(dy) + i64::from(raise))
-}
-
-fn rest_dy(raise: i32, row: RestRow) -> i32
-    ensures { result ≡ rest_dy raise row }
-{
-    raised(raise, steps_dy(row.line))
 }
 
 /// Returns the dy of a part of a short rest by its number.
@@ -46,19 +39,15 @@ fn put_short_rests(pen: &mut MarkPen, sort: Glyph, top: i32, flags: u8) -> Resul
     Ok(())
 }
 
-fn put_long_rest(pen: &mut MarkPen, raise: i32, row: RestRow) -> Result<(), Memory>
-    ensures { OnOk result (pen.new ≡ inked pen.old (rest_glyph raise row ∷ [])) }
-{
-    put_glyph(pen, row.glyph, 0, rest_dy(raise, row))
-}
-
+/// Draws a rest without its dots.
 fn put_rest_glyphs(pen: &mut MarkPen, raise: i32, base: Base, flags: u8) -> Result<(), Memory>
     ensures { OnOk result (pen.new ≡ inked pen.old (rest_glyphs raise base flags)) }
 {
     let row = rest_row(base);
+    let dy = raised(raise, steps_dy(row.line));
     match base {
-        Base::Breve | Base::Whole | Base::Half | Base::Quarter => put_long_rest(pen, raise, row),
-        _ => put_short_rests(pen, row.glyph, rest_dy(raise, row), flags),
+        Base::Breve | Base::Whole | Base::Half | Base::Quarter => put_glyph(pen, row.glyph, 0, dy),
+        _ => put_short_rests(pen, row.glyph, dy, flags),
     }
 }
 
@@ -85,7 +74,7 @@ pub fn put_rest(
 {
     match look {
         Look::Unseen => put_glyph(pen, Glyph::Nn, 0, raised(raise, 0)),
-        Look::Whole => put_long_rest(pen, raise, rest_row(Base::Whole)),
+        Look::Whole => put_rest_glyphs(pen, raise, Base::Whole, 0),
         Look::Seen => {
             put_rest_glyphs(pen, raise, value.base, flags)?;
             put_rest_dots(pen, raise, value.dots)

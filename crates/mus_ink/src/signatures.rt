@@ -1,11 +1,11 @@
 ghost use Rattle.std.specs.Prelude.{◌≡◌, ◌≤◌, ◌∷◌, [], length, decimal, IfOk, OnOk};
-ghost use Rattle.mus_ink.specs.Signatures.{clef_mark, height_at, entries_for, entry_dy, shown_alter, entry_mark};
-ghost use Rattle.mus_ink.specs.Signatures.{entry_marks, meter_marks, meter_if};
+ghost use Rattle.mus_ink.specs.Signatures.{clef_mark, entry_dy, entry_mark, entry_marks, height_at, meter_if};
+ghost use Rattle.mus_ink.specs.Signatures.{shown_alter};
 ghost use Rattle.mus_laid.specs.Ranked.{inked};
 
 use crate::distances::{ENTRY_STEP, LOWER_NUMBER_LINE, METER_SIGN_LINE, UPPER_NUMBER_LINE};
 use crate::drawing::{put_big_text, put_glyph, steps_dy};
-use crate::kinds::{ClefRow, Entries, clef_row, sign_glyph};
+use crate::kinds::{Entries, clef_row, sign_glyph};
 use mus_laid::MarkPen;
 use mus_units::{Alter, Clef, Letter, Memory, Meter, Sign, Text};
 use std::alloc::Global;
@@ -33,30 +33,17 @@ fn height_at(letter: Letter, entries: Entries) -> i32
     }
 }
 
-/// Returns the heights of the entries of a signature: flats have heights of their own, all others are where sharps
-/// are.
-fn entries_for(alter: Alter, row: ClefRow) -> Entries
-    ensures { result ≡ entries_for alter row }
-{
-    match alter {
-        Alter::Flat2 | Alter::Flat => row.flats,
-        _ => row.sharps,
-    }
-}
-
-/// Returns the dy of an entry of a signature.
+/// Returns the dy of an entry of a signature: flats have heights of their own, all others are where sharps are.
 #[tactic(auto, unfolding(crate::specs::Signatures::entry_dy))]
 fn entry_dy(clef: Clef, alter: Alter, letter: Letter) -> i32
     ensures { result ≡ entry_dy clef alter letter }
 {
-    steps_dy(height_at(letter, entries_for(alter, clef_row(clef))))
-}
-
-/// Returns the accidental that an entry shows: a natural if its key ends.
-fn shown_alter(ends: bool, alter: Alter) -> Alter
-    ensures { result ≡ shown_alter ends alter }
-{
-    if ends { Alter::Natural } else { alter }
+    let row = clef_row(clef);
+    let entries = match alter {
+        Alter::Flat2 | Alter::Flat => row.flats,
+        _ => row.sharps,
+    };
+    steps_dy(height_at(letter, entries))
 }
 
 /// Draws an entry of a signature, as a natural if its key ends.
@@ -66,7 +53,7 @@ fn put_entry(pen: &mut MarkPen, clef: Clef, ends: bool, sign: Sign, dx: u32) -> 
     ensures { OnOk result
         (pen.new ≡ inked pen.old (entry_mark clef (shown_alter ends sign.alter) sign.letter dx ∷ [])) }
 {
-    let alter = shown_alter(ends, sign.alter);
+    let alter = if ends { Alter::Natural } else { sign.alter };
     let dy = entry_dy(clef, alter, sign.letter);
     put_glyph(pen, sign_glyph(alter), dx as i32, dy)
 }
@@ -99,40 +86,26 @@ fn digits(alloc: Global, number: u8) -> Result<Text, Memory>
     Text::from_slice(alloc, digits.as_bytes())
 }
 
-/// Draws a meter: its two numbers, or its sign. Draws nothing for a free meter.
+/// Draws a meter at dx `dx`, if there is one to draw: its two numbers, or its sign, and nothing for a free meter.
 #[tactic(auto, unfolding(crate::specs::Signatures::meter_marks))]
-fn put_meter(pen: &mut MarkPen, dx: u32, meter: Meter) -> Result<(), Memory>
-    requires { dx ≤ 10000 }
-    ensures { OnOk result (pen.new ≡ inked pen.old (meter_marks dx meter)) }
-{
-    match meter {
-        Meter::Free => Ok(()),
-        Meter::Common => put_big_text(
-            pen,
-            dx as i32,
-            METER_SIGN_LINE,
-            Text::from_slice(pen.alloc, b"C")?,
-        ),
-        Meter::Cut => put_big_text(
-            pen,
-            dx as i32,
-            METER_SIGN_LINE,
-            Text::from_slice(pen.alloc, b"C|")?,
-        ),
-        Meter::Ratio { num, den } => {
-            put_big_text(pen, dx as i32, UPPER_NUMBER_LINE, digits(pen.alloc, num)?)?;
-            put_big_text(pen, dx as i32, LOWER_NUMBER_LINE, digits(pen.alloc, den)?)
-        }
-    }
-}
-
-/// Draws a meter at dx `dx`, if there is one to draw.
 pub fn put_meter_if(pen: &mut MarkPen, dx: u32, meter: Option<Meter>) -> Result<(), Memory>
     requires { dx ≤ 10000 }
     ensures { OnOk result (pen.new ≡ inked pen.old (meter_if dx meter)) }
 {
+    let dx = dx as i32;
     match meter {
-        None => Ok(()),
-        Some(meter) => put_meter(pen, dx, meter),
+        None | Some(Meter::Free) => Ok(()),
+        Some(Meter::Common) => {
+            let sign = Text::from_slice(pen.alloc, b"C")?;
+            put_big_text(pen, dx, METER_SIGN_LINE, sign)
+        }
+        Some(Meter::Cut) => {
+            let sign = Text::from_slice(pen.alloc, b"C|")?;
+            put_big_text(pen, dx, METER_SIGN_LINE, sign)
+        }
+        Some(Meter::Ratio { num, den }) => {
+            put_big_text(pen, dx, UPPER_NUMBER_LINE, digits(pen.alloc, num)?)?;
+            put_big_text(pen, dx, LOWER_NUMBER_LINE, digits(pen.alloc, den)?)
+        }
     }
 }

@@ -1,31 +1,18 @@
 ghost use Rattle.std.specs.Prelude.{◌≡◌, ◌-◌, ◌∷◌, [], OnOk};
-ghost use Rattle.mus_ink.specs.Drawing.{glyph, loose_glyph};
-ghost use Rattle.mus_ink.specs.Kinds.{flag_glyph, stub_glyph};
-ghost use Rattle.mus_ink.specs.Stems.{stem_dx, stem_if, flag_dy, flag_marks, lower_edge, stub_marks, flags_or_stubs};
-ghost use Rattle.mus_ink.specs.Stems.{stem_marks};
+ghost use Rattle.mus_ink.specs.Stems.{flag_dy, flag_marks, lower_edge, stem_dx, stem_marks, stub_marks};
 ghost use Rattle.{mus_stems.specs.Slope.{with_end}, mus_laid.specs.Ranked.{inked}};
 
 use crate::distances::{LEVEL_STEP, STEM_SIDE};
 use crate::drawing::{cut_dy, put_glyph, put_loose_glyph, put_stem};
-use crate::kinds::{flag_glyph, stub_glyph};
 use mus_laid::{BEAM_THICKNESS, MarkPen};
 use mus_stems::StemPlan;
-use mus_units::Memory;
+use mus_units::{Glyph, Memory};
 
 /// Returns the dx of a stem: right of the heads if it goes up, left if it goes down.
 fn stem_dx(up: bool) -> i32
     ensures { result ≡ stem_dx up }
 {
     if up { STEM_SIDE } else { -STEM_SIDE }
-}
-
-fn put_stem_if(pen: &mut MarkPen, has: bool, up: bool, from: i32, to: i32) -> Result<(), Memory>
-    ensures { OnOk result (pen.new ≡ inked pen.old (stem_if has up from to)) }
-{
-    if has {
-        put_stem(pen, stem_dx(up), from, to)?;
-    }
-    Ok(())
 }
 
 /// Returns the dy of a flag by its number.
@@ -40,13 +27,14 @@ fn flag_dy(up: bool, to: i32, k: u8) -> i32
     }
 }
 
-/// Draws the flags of an event without a beam.
+/// Draws the flags of an event without a beam, from the end of its stem towards its heads.
 #[tactic(auto, using(crate::proofs::Counting::flags_step, std::proofs::lemmas::Grind::common_steps))]
 fn put_flags(pen: &mut MarkPen, up: bool, to: i32, flags: u8) -> Result<(), Memory>
     ensures { OnOk result (pen.new ≡ inked pen.old (flag_marks up to 0 flags)) }
 {
     for k in 0..flags {
-        put_glyph(pen, flag_glyph(up), stem_dx(up), flag_dy(up, to, k))?;
+        let glyph = if up { Glyph::Fu } else { Glyph::Fd };
+        put_glyph(pen, glyph, stem_dx(up), flag_dy(up, to, k))?;
     }
     Ok(())
 }
@@ -63,7 +51,8 @@ pub fn lower_edge(up: bool, to: i32, level: u8) -> i32
     }
 }
 
-/// Draws the stubs of an event in a beam, from a level on.
+/// Draws the stubs of an event in a beam, from a level on: to the right at the first event of the beam, to the left at
+/// others.
 #[tactic(auto, using(crate::proofs::Counting::stubs_step, std::proofs::lemmas::Grind::common_steps))]
 fn put_stubs(
     pen: &mut MarkPen,
@@ -76,32 +65,15 @@ fn put_stubs(
     ensures { OnOk result (pen.new ≡ inked pen.old (stub_marks first up to level (flags - level))) }
 {
     for k in level..flags {
-        put_loose_glyph(pen, stub_glyph(first), stem_dx(up), lower_edge(up, to, k))?;
+        let glyph = if first { Glyph::Sr } else { Glyph::Sl };
+        put_loose_glyph(pen, glyph, stem_dx(up), lower_edge(up, to, k))?;
     }
     Ok(())
 }
 
-#[tactic(auto, unfolding(crate::specs::Stems::flags_or_stubs))]
-fn put_flags_or_stubs(
-    pen: &mut MarkPen,
-    plan: &StemPlan,
-    to: i32,
-    before: u8,
-    after: u8,
-) -> Result<(), Memory>
-    ensures { OnOk result (pen.new ≡ inked pen.old (flags_or_stubs (with_end plan.now to) before after)) }
-{
-    if before == 0 && after == 0 {
-        put_flags(pen, plan.up, to, plan.flags)
-    } else {
-        let level = before.max(after);
-        put_stubs(pen, before == 0, plan.up, to, level, plan.flags)
-    }
-}
-
 /// Draws the stem of an event, which ends at `to`, and its flags or its stubs. `before` and `after` are the levels of
 /// the events beside it in its beam, 0 if there is none.
-#[tactic(auto, unfolding(crate::specs::Stems::stem_marks))]
+#[tactic(auto, unfolding(crate::specs::Stems::stem_marks, crate::specs::Stems::flags_or_stubs))]
 pub fn put_stem_of(
     pen: &mut MarkPen,
     plan: &StemPlan,
@@ -111,6 +83,13 @@ pub fn put_stem_of(
 ) -> Result<(), Memory>
     ensures { OnOk result (pen.new ≡ inked pen.old (stem_marks (with_end plan.now to) before after)) }
 {
-    put_stem_if(pen, plan.has, plan.up, plan.from, to)?;
-    put_flags_or_stubs(pen, plan, to, before, after)
+    if plan.has {
+        put_stem(pen, stem_dx(plan.up), plan.from, to)?;
+    }
+    if before == 0 && after == 0 {
+        put_flags(pen, plan.up, to, plan.flags)
+    } else {
+        let level = before.max(after);
+        put_stubs(pen, before == 0, plan.up, to, level, plan.flags)
+    }
 }

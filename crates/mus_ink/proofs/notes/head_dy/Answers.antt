@@ -8,6 +8,6 @@ use Rattle.mus_ink.proofs.notes.head_dy.Goals as goal
 pub returns : goal.returns
 unfolding dy_of
 returns c =
-    let at : to_z w32 (of_z w32 c.steps.result) ≡ cut_dy (height_of c.args.head.pitch c.args.clef) = search rules in
-    let dy : to_z w32 (of_z w32 c.steps_dy.result) ≡ steps_dy (to_z w32 (of_z w32 c.steps.result)) = search rules in
+    let at : to_z w32 (of_z w32 c.cut_dy.result) ≡ cut_dy (height_of c.args.head.pitch c.args.clef) = search rules in
+    let dy : to_z w32 (of_z w32 c.steps_dy.result) ≡ steps_dy (to_z w32 (of_z w32 c.cut_dy.result)) = search rules in
     dy ∙ ap steps_dy at ∙ cut_inside _
