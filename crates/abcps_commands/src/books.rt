@@ -2,25 +2,31 @@
 //! table of `systems --table`, and the faults; and books whose output stands in their cases.
 
 use crate::case::{Expected, RunCase, put_file, words_of};
-use crate::files::read_file;
-use crate::running::{Finished, Host, PIECE, Streams, ran};
+use crate::files::NamedFiles;
+use crate::running::{Finished, PIECE, Streams, ran};
 use abcps::Status;
 use case_texts::{CaseError, Report};
 use mus_units::{Memory, Text};
 use std::alloc::Global;
+use std::thread::Threads;
 
 /// The line that ends the part of a document that is the same for every book.
 const END_OF_PROLOG: &[u8] = b"%%EndProlog\n";
 
 /// Runs the words on a book.
-fn ran_on<R: Host>(rt: &R, words: &str, book: &[u8]) -> Result<Finished, CaseError> {
-    let alloc = rt.alloc();
+fn ran_on<R: Threads + Sync>(
+    rt: &R,
+    alloc: Global,
+    words: &str,
+    book: &[u8],
+) -> Result<Finished, CaseError> {
     let expected = Expected {
         status: 0,
         output: Vec::new(alloc),
         errors: Vec::new(alloc),
     };
     let case = RunCase {
+        alloc,
         words: words_of(alloc, words)?,
         input: Vec::from_slice(alloc, book)?,
         expected,
@@ -59,19 +65,21 @@ fn have_status(set: &Finished, systems: &Finished) -> bool {
 
 /// Adds the name of a file if a book's output is what it has, or else how they differ; and a line for runs whose
 /// status or faults don't fit.
-pub(crate) fn put_book<R: Host>(
+pub(crate) fn put_book<R: Threads + Sync>(
     rt: &R,
+    files: &NamedFiles,
     out: &mut Report,
     name: &str,
     expected: &str,
 ) -> Result<(), CaseError> {
-    let book = read_file(rt, name)?;
-    let set = ran_on(rt, "set", &book)?;
-    let systems = ran_on(rt, "systems --table", &book)?;
+    let alloc = out.alloc;
+    let book = files.bytes(name)?;
+    let set = ran_on(rt, alloc, "set", book)?;
+    let systems = ran_on(rt, alloc, "systems --table", book)?;
     let faults = set.errors.taken();
     let pages = past_prolog(set.output.taken());
-    let text = joined(rt.alloc(), pages, systems.output.taken(), faults)?;
-    put_file(out, expected, &read_file(rt, expected)?, text.as_slice())?;
+    let text = joined(alloc, pages, systems.output.taken(), faults)?;
+    put_file(out, expected, files.bytes(expected)?, text.as_slice())?;
     out.flag(!have_status(&set, &systems), b"with another status")?;
     out.flag(
         faults != systems.errors.taken(),
@@ -80,13 +88,13 @@ pub(crate) fn put_book<R: Host>(
 }
 
 /// Adds the status of words on a book, what they write, and the faults that they report.
-pub(crate) fn put_shown<R: Host>(
+pub(crate) fn put_shown<R: Threads + Sync>(
     rt: &R,
     out: &mut Report,
     words: &str,
     book: &[u8],
 ) -> Result<(), CaseError> {
-    let finished = ran_on(rt, words, book)?;
+    let finished = ran_on(rt, out.alloc, words, book)?;
     out.next_number(b"status ", finished.status.number())?;
     out.end_line()?;
     out.append(finished.output.taken())?;

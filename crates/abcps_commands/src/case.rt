@@ -5,9 +5,9 @@
 //! generated, as `50000 rests`. The value of a run has a line `status` with its number, and for each sink that was
 //! written on a line `output` or `errors` with the name of the file that has the same bytes.
 
-use crate::files::read_file;
+use crate::files::NamedFiles;
 use crate::made::made;
-use crate::running::{Finished, Host, Stream};
+use crate::running::{Finished, Stream};
 use abcps::Status;
 use case_texts::{Case, CaseError, Mistake, Report, number_of};
 use std::alloc::{AllocError, Global};
@@ -20,9 +20,10 @@ pub(crate) struct Expected {
     pub(crate) errors: Vec<u8>,
 }
 
-/// The words and the input of a run, and its expected result.
+/// The words and the input of a run, its expected result, and the memory that it runs in.
 #[derive(Drop)]
 pub(crate) struct RunCase {
+    pub(crate) alloc: Global,
     pub(crate) words: Vec<String>,
     pub(crate) input: Vec<u8>,
     pub(crate) expected: Expected,
@@ -104,11 +105,11 @@ pub(crate) fn words_of(alloc: Global, text: &str) -> Result<Vec<String>, AllocEr
 }
 
 /// Returns the input that a text names or says how to generate; no text says that it is empty.
-fn input_of<R: Host>(rt: &R, text: &str) -> Result<Vec<u8>, CaseError> {
+fn input_of(alloc: Global, files: &NamedFiles, text: &str) -> Result<Vec<u8>, CaseError> {
     match text.split_once(' ') {
-        Some((count, what)) => made(rt.alloc(), count, what),
-        None if text.is_empty() => Ok(Vec::new(rt.alloc())),
-        None => read_file(rt, text),
+        Some((count, what)) => made(alloc, count, what),
+        None if text.is_empty() => Ok(Vec::new(alloc)),
+        None => Ok(Vec::from_slice(alloc, files.bytes(text)?)?),
     }
 }
 
@@ -125,30 +126,55 @@ fn line_of<'a>(expected: &'a str, word: &str) -> Option<&'a str> {
 }
 
 /// Returns the bytes of the file that a line of an expected value names, or no byte without such a line.
-fn bytes_of<R: Host>(rt: &R, expected: &str, word: &str) -> Result<Vec<u8>, CaseError> {
+fn bytes_of(
+    alloc: Global,
+    files: &NamedFiles,
+    expected: &str,
+    word: &str,
+) -> Result<Vec<u8>, CaseError> {
     match line_of(expected, word) {
-        Some(name) => read_file(rt, name),
-        None => Ok(Vec::new(rt.alloc())),
+        Some(name) => Ok(Vec::from_slice(alloc, files.bytes(name)?)?),
+        None => Ok(Vec::new(alloc)),
     }
 }
 
 /// Returns the result of a run that an expected value says.
-fn expected_of<R: Host>(rt: &R, expected: &str) -> Result<Expected, CaseError> {
+fn expected_of(alloc: Global, files: &NamedFiles, expected: &str) -> Result<Expected, CaseError> {
     let status = line_of(expected, "status").ok_or(CaseError::Wrong(Mistake::NoStatus))?;
     Ok(Expected {
         status: number_of::<u8>(status)?,
-        output: bytes_of(rt, expected, "output")?,
-        errors: bytes_of(rt, expected, "errors")?,
+        output: bytes_of(alloc, files, expected, "output")?,
+        errors: bytes_of(alloc, files, expected, "errors")?,
     })
 }
 
 /// Returns the run that a case says.
-pub(crate) fn run_of<R: Host>(rt: &R, case: Case<'_>) -> Result<RunCase, CaseError> {
+pub(crate) fn run_of(
+    alloc: Global,
+    files: &NamedFiles,
+    case: Case<'_>,
+) -> Result<RunCase, CaseError> {
     Ok(RunCase {
-        words: words_of(rt.alloc(), case.word)?,
-        input: input_of(rt, case.input)?,
-        expected: expected_of(rt, case.expected)?,
+        alloc,
+        words: words_of(alloc, case.word)?,
+        input: input_of(alloc, files, case.input)?,
+        expected: expected_of(alloc, files, case.expected)?,
     })
+}
+
+/// Returns the names of the files that a case names: of its input, and of what is expected.
+pub(crate) fn named_files(case: Case<'_>) -> [Option<&str>; 3] {
+    let input = Some(case.input);
+    match case.call {
+        "book" => [input, Some(case.expected), None],
+        "document" => [input, None, None],
+        "run" | "fail" | "count" | "meet" => [
+            input.filter(|text| !text.is_empty() && !text.contains(' ')),
+            line_of(case.expected, "output"),
+            line_of(case.expected, "errors"),
+        ],
+        _ => [None, None, None],
+    }
 }
 
 /// Adds a line with the status of a run, and one for each sink that was written on, with the name of the file that is

@@ -1,12 +1,13 @@
 //! Runs over streams that fail.
 
 use crate::case::RunCase;
-use crate::running::{Host, PIECE, Stream, Streams, ran};
+use crate::running::{PIECE, Stream, Streams, ran};
 use case_texts::{CaseError, Report};
 use std::alloc::AllocError;
+use std::thread::Threads;
 
 /// Returns whether a run over streams is as expected.
-pub(crate) fn is_met<R: Host>(
+pub(crate) fn is_met<R: Threads + Sync>(
     rt: &R,
     case: &RunCase,
     streams: &Streams,
@@ -16,7 +17,7 @@ pub(crate) fn is_met<R: Host>(
 }
 
 /// Returns whether a run over streams of which one fails is as expected.
-fn is_met_after<R: Host>(
+fn is_met_after<R: Threads + Sync>(
     rt: &R,
     case: &RunCase,
     stream: Stream,
@@ -28,7 +29,7 @@ fn is_met_after<R: Host>(
 
 /// Returns whether a run is as expected with each of the calls of a stream failing in turn, and with the call after
 /// the last, which is never made.
-fn fails_as_expected<R: Host>(
+fn fails_as_expected<R: Threads + Sync>(
     rt: &R,
     case: &RunCase,
     stream: Stream,
@@ -43,7 +44,7 @@ fn fails_as_expected<R: Host>(
 }
 
 /// Returns whether a run is as expected with a sink that takes no byte.
-fn takes_none_as_expected<R: Host>(
+fn takes_none_as_expected<R: Threads + Sync>(
     rt: &R,
     case: &RunCase,
     stream: Stream,
@@ -57,7 +58,7 @@ fn takes_none_as_expected<R: Host>(
 }
 
 /// Returns whether a run is as expected with sinks that take a byte in each call, and with each sink taking none.
-fn trickles_as_expected<R: Host>(rt: &R, case: &RunCase) -> Result<bool, AllocError> {
+fn trickles_as_expected<R: Threads + Sync>(rt: &R, case: &RunCase) -> Result<bool, AllocError> {
     Ok(
         is_met(rt, case, &Streams::sound(1))?
             && takes_none_as_expected(rt, case, Stream::Output)?
@@ -74,7 +75,7 @@ fn calls_named(stream: Stream) -> &'static [u8] {
 }
 
 /// Returns how often a run over sound streams calls each of them.
-fn calls_of<R: Host>(rt: &R, case: &RunCase) -> Result<[u64; 3], AllocError> {
+fn calls_of<R: Threads + Sync>(rt: &R, case: &RunCase) -> Result<[u64; 3], AllocError> {
     let sound = ran(rt, case, &Streams::sound(PIECE))?;
     Ok([
         sound.calls(Stream::Input),
@@ -84,7 +85,7 @@ fn calls_of<R: Host>(rt: &R, case: &RunCase) -> Result<[u64; 3], AllocError> {
 }
 
 /// Adds a line with the number of a stream's calls, which fail in turn, and that a run isn't as expected if one isn't.
-fn put_stream<R: Host>(
+fn put_stream<R: Threads + Sync>(
     rt: &R,
     out: &mut Report,
     case: &RunCase,
@@ -99,7 +100,7 @@ fn put_stream<R: Host>(
 }
 
 /// Adds for each stream how many calls fail in turn, and a line for sinks that take one byte, or none.
-pub(crate) fn put_failures<R: Host>(
+pub(crate) fn put_failures<R: Threads + Sync>(
     rt: &R,
     out: &mut Report,
     case: &RunCase,

@@ -1,12 +1,13 @@
 //! Gates that count the tunes that enter, and one at which two tunes wait for each other.
 
 use crate::case::RunCase;
-use crate::running::{Finished, Host, PIECE, Streams, ran_through};
+use crate::running::{Finished, PIECE, Streams, ran_through};
 use abcps::Gate;
 use case_texts::Meeting;
 use std::alloc::{AllocError, Global};
 use std::sync::atomic::AtomicU64;
 use std::sync::atomic::Ordering::SeqCst;
+use std::thread::Threads;
 
 /// The number of tunes that a gate knows.
 const MOST_TUNES: usize = 1000;
@@ -68,11 +69,11 @@ impl Counter {
 }
 
 /// Runs a case over streams that never fail, and returns the run and who entered its gate.
-pub(crate) fn ran_counted<R: Host>(
+pub(crate) fn ran_counted<R: Threads + Sync>(
     rt: &R,
     case: &RunCase,
 ) -> Result<(Finished, Entered), AllocError> {
-    let counter = make_counter(rt.alloc())?;
+    let counter = make_counter(case.alloc)?;
     let finished = ran_through(rt, case, &Streams::sound(PIECE), &counter)?;
     Ok((finished, counter.sum()))
 }
@@ -90,7 +91,10 @@ impl Gate for MeetingGate {
 }
 
 /// Runs a case of two tunes over streams that never fail, and returns whether the tunes met.
-pub(crate) fn ran_meeting<R: Host>(rt: &R, case: &RunCase) -> Result<(Finished, bool), AllocError> {
+pub(crate) fn ran_meeting<R: Threads + Sync>(
+    rt: &R,
+    case: &RunCase,
+) -> Result<(Finished, bool), AllocError> {
     let gate = MeetingGate {
         meeting: Meeting::new(TURNS),
     };

@@ -1,7 +1,6 @@
 //! Programs for the painting machine, and whole documents: what each paints, or why it halts.
 
-use crate::files::read_file;
-use crate::running::Host;
+use crate::files::NamedFiles;
 use case_texts::{CaseError, Report, number_of};
 use ps_machine::{MachineError, run_machine};
 use ps_reports::{put_halt, put_pages};
@@ -21,8 +20,12 @@ pub(crate) fn put_program(out: &mut Report, word: &str, program: &[u8]) -> Resul
 }
 
 /// Adds what the document in a file paints.
-pub(crate) fn put_document<R: Host>(rt: &R, out: &mut Report, name: &str) -> Result<(), CaseError> {
-    let document = read_file(rt, name)?;
+pub(crate) fn put_document(
+    files: &NamedFiles,
+    out: &mut Report,
+    name: &str,
+) -> Result<(), CaseError> {
+    let document = files.bytes(name)?;
     let budget = (document.len() as u64).saturating_mul(100);
-    put_painted(out, &document, budget)
+    put_painted(out, document, budget)
 }

@@ -5,13 +5,7 @@ use abcps::{Gate, NoGate, Status, run};
 use eng_io::{MemSink, MemSource};
 use mus_units::{Row, Text};
 use std::alloc::{AllocError, Global};
-use std::rt::Files;
 use std::thread::Threads;
-
-/// What a case needs from the runtime: its files and memory, threads for the run, and where to report it.
-pub trait Host: Files + AllocGlobal + Print + Threads + Sync {}
-
-impl<R: Files + AllocGlobal + Print + Threads + Sync> Host for R {}
 
 /// The number of bytes that a source gives in one call.
 const READ_PIECE: u32 = 16;
@@ -132,7 +126,7 @@ fn sink(alloc: Global, pace: Pace) -> Result<MemSink, AllocError> {
 }
 
 /// Returns a run of a case over such streams, whose tunes enter no gate.
-pub(crate) fn ran<R: Host>(
+pub(crate) fn ran<R: Threads + Sync>(
     rt: &R,
     case: &RunCase,
     streams: &Streams,
@@ -141,13 +135,13 @@ pub(crate) fn ran<R: Host>(
 }
 
 /// Returns a run of a case over such streams, whose tunes enter a gate.
-pub(crate) fn ran_through<R: Host, G: Gate + Sync>(
+pub(crate) fn ran_through<R: Threads + Sync, G: Gate + Sync>(
     rt: &R,
     case: &RunCase,
     streams: &Streams,
     gate: &G,
 ) -> Result<Finished, AllocError> {
-    let alloc = rt.alloc();
+    let alloc = case.alloc;
     let mut input = source(alloc, &case.input, streams.read_fails)?;
     let mut output = sink(alloc, streams.output)?;
     let mut errors = sink(alloc, streams.errors)?;
