@@ -31,6 +31,7 @@ use Rattle.lay_shared.proofs.PlanLaws.{spelled-plan}
 use Rattle.mus_score.specs.declared.score.Score.{Score}
 use Rattle.mus_score.specs.declared.score.Voice.{Voice}
 use Rattle.mus_score.specs.GoodScore.{IsGoodScore}
+use Rattle.mus_score.specs.Limits.{measure_limit}
 use Rattle.mus_laid.specs.declared.laid.SystemMarks.{SystemMarks}
 use Rattle.lay_breaks.specs.Breaking.{RisesFrom, last_from}
 use Rattle.lay_pages.specs.declared.stacking.Heights.{Heights}
@@ -174,9 +175,9 @@ count_titles : (rows : List TitleRow) (height : ℕ) (keep : Bool) → length (t
 count_titles [] height keep = omega arith
 count_titles (row ∷ rows) height keep = omega arith
 
--- a tune that is laid out has few blocks
+-- a tune that is laid out has a block for each system, at most one for each measure, and maybe one for its titles
 pub few_blocks : (width : ℕ) (t : SetTune)
-    → IsGoodScore t.score → IsLaidOut width t → length (blocks_of t.title t.heights) < 2 ^ 32
+    → IsGoodScore t.score → IsLaidOut width t → length (blocks_of t.title t.heights) ≤ measure_limit + 1
 unfolding blocks_of
 few_blocks width t good laid =
     let titles = title_blocks t.title.rows t.title.height (is_some_list t.heights) in
