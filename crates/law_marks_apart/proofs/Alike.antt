@@ -1,7 +1,6 @@
 -- Marks of the same shapes, that differ only in heights, have the same boxes.
-use Rattle.std.proofs.Common.{◌≡◌, ◌∙◌, sym, ap, subst, refl, ℕ, ◌<◌, ℤ, pos, ◌+ℤ◌, ◌≤ℤ◌, List, length, get_or, arith}
-use Rattle.std.proofs.lemmas.List.{get_or-map, length-map}
-use Rattle.std.proofs.lemmas.List.Elements.{Contains-get_or}
+use Rattle.std.proofs.Common.{◌≡◌, ◌∙◌, sym, ap, subst, refl, ℕ, ℤ, pos, ◌+ℤ◌, ◌≤ℤ◌, List, get_or}
+use Rattle.std.proofs.lemmas.List.Elements.{All-contains, Contains-get_or}
 use Rattle.std.specs.List.{Contains}
 use Rattle.mus_laid.specs.Boxes.{sides_of}
 use Rattle.mus_laid.specs.Shapes.{laid_shape, mark_shape, marks_shape}
@@ -10,6 +9,7 @@ use Rattle.mus_laid.specs.declared.laid.Laid.{Laid}
 use Rattle.mus_laid.specs.declared.laid.Mark.{Mark}
 use Rattle.lay_reaches.specs.Reaches.{rank_of_mark}
 use Rattle.lay_tune.specs.Systems.{x_at}
+use Rattle.law_marks_in_range.proofs.Alike.{same_in}
 use Rattle.law_marks_apart.specs.Apart.{AreApart, IsBoxed, Keeps, gap_of}
 
 box_shape : (x : Mark) → (rank_of_mark (mark_shape x) ≡ rank_of_mark x) × (sides_of (mark_shape x) ≡ sides_of x)
@@ -23,22 +23,16 @@ boxed_alike x y r box e b = record {
   box_is = sym (box_shape x.mark).1 ∙ ap (λ (l : Laid). sides_of l.mark) e ∙ (box_shape y.mark).1 ∙ b.box_is;
 }
 
--- the mark of the same shape
-other : (xs ys : List Laid)
-    → marks_shape xs ≡ marks_shape ys → (y : Laid) → Contains ys y
-    → (x : Laid) × Contains xs x × (laid_shape x ≡ laid_shape y)
-other xs ys e y (i, inside, is) =
-    let less : i < length xs = let a = length-map xs laid_shape in
-    let b = length-map ys laid_shape in
-    let c = ap (λ zs. length zs) e in
-    omega (arith, a, b, c, inside) in (
-      get_or xs i y,
-      Contains-get_or xs i y less,
-      sym (get_or-map laid_shape xs i y (laid_shape y) less)
-          ∙ ap (λ zs. get_or zs i (laid_shape y)) e
-          ∙ get_or-map laid_shape ys i y (laid_shape y) inside
-          ∙ ap laid_shape is,
-    )
+-- a mark of the same shape
+abbrev HasShape : List Laid → Laid → Type 0
+HasShape xs y = (x : Laid) × Contains xs x × (laid_shape x ≡ laid_shape y)
+
+other : (xs ys : List Laid) → marks_shape xs ≡ marks_shape ys → (y : Laid) → Contains ys y → HasShape xs y
+other xs ys e y has =
+    All-contains (HasShape xs) ys y
+    (same_in laid_shape (HasShape xs) (λ x z same own. (own.0, own.1, own.2 ∙ same)) xs ys e
+    (λ k d less. (get_or xs k d, Contains-get_or xs k d less, refl)))
+    has
 
 -- so they are as far apart
 pub same_apart : (width : ℕ) (at : List ℤ) (xs ys : List Laid)

@@ -32,14 +32,6 @@ pub record StandBetween (n : ℕ) (reach : ℕ → ℕ → Option Reach) (gaps :
   pub last : StandsInAll (reach (n - 1)) (length gaps)
 
 -- ---- reaches
-cut_left : (at : ℤ) (left right width : ℕ)
-    → pos left ≤ℤ at → (at +ℤ pos right) ≤ℤ pos width → width < 2 ^ 20 → left ≡ 2 ^ 20 → ⊥
-cut_left at left right width low high small cut = omega (arith, ints)
-
-cut_right : (at : ℤ) (left right width : ℕ)
-    → pos left ≤ℤ at → (at +ℤ pos right) ≤ℤ pos width → width < 2 ^ 20 → right ≡ 2 ^ 20 → ⊥
-cut_right at left right width low high small cut = omega (arith, ints)
-
 module _ (n : ℕ) (reach : ℕ → ℕ → Option Reach) (gaps : List ℕ) (spring : ℕ → ℕ) (width : ℕ) (at : List ℤ)
     (h : StandBetween n reach gaps spring width at) where
   left_inside : (k lane : ℕ) (r : Reach) → k < n → lane < length gaps → reach k lane ≡ Some r → pos r.left ≤ℤ x_at at k
@@ -69,24 +61,16 @@ module _ (n : ℕ) (reach : ℕ → ℕ → Option Reach) (gaps : List ℕ) (spr
         (h.ends.reaches lane r m (subst (λ i. reach i lane ≡ Some r) z e))
   ]
 
-  left_covered : (k lane : ℕ) (r : Reach) (box : Sides)
+  -- a reach that is cut would pass the width
+  covered : (k lane : ℕ) (r : Reach) (box : Sides)
       → width < 2 ^ 20 → k < n → lane < length gaps → reach k lane ≡ Some r → Covers r box
-      → neg_ℤ box.left ≤ℤ pos r.left
-  left_covered k lane r box small l m e c = elim c.0 [
-    | inl is ↦ is
-    | inr cut ↦
-        absurd (cut_left (x_at at k) r.left r.right width (left_inside k lane r l m e) (right_inside k lane r l m e)
-        small cut)
-  ]
-
-  right_covered : (k lane : ℕ) (r : Reach) (box : Sides)
-      → width < 2 ^ 20 → k < n → lane < length gaps → reach k lane ≡ Some r → Covers r box → box.right ≤ℤ pos r.right
-  right_covered k lane r box small l m e c = elim c.1 [
-    | inl is ↦ is
-    | inr cut ↦
-        absurd (cut_right (x_at at k) r.left r.right width (left_inside k lane r l m e) (right_inside k lane r l m e)
-        small cut)
-  ]
+      → (neg_ℤ box.left ≤ℤ pos r.left) × (box.right ≤ℤ pos r.right)
+  covered k lane r box small l m e c =
+      let low = left_inside k lane r l m e in
+      let high = right_inside k lane r l m e in (
+        elim c.0 [ inl is ↦ is | inr cut ↦ absurd (omega (arith, ints, low, high, small, cut)) ],
+        elim c.1 [ inl is ↦ is | inr cut ↦ absurd (omega (arith, ints, low, high, small, cut)) ],
+      )
 
 -- ---- boxes
 clear_boxes : (x y first second : ℤ) (right gap left : ℕ)
@@ -138,21 +122,17 @@ module _ (staves : List StaffMarks) (verses : List ℕ) (columns : List Column) 
       let place = place_of_lane verses s count number at_count low in
       let l = below x r inside at_rank in
       let c = cover s r number count staff x box at_staff at_count inside at_rank l at_lane low at_box in
+      let lane = lane_start verses s + number in
+      let reach = reach_at column_reach columns in
+      let both = covered (length columns) reach (gaps_of verses) spring width at h r lane c.0 box small l place.inside
+      c.1 c.2 in
       record {
         reach = c.0;
         is = c.1;
-        left =
-            left_covered (length columns) (reach_at column_reach columns) (gaps_of verses) spring width at h r
-            (lane_start verses s + number) c.0 box small l place.inside c.1 c.2;
-        right =
-            right_covered (length columns) (reach_at column_reach columns) (gaps_of verses) spring width at h r
-            (lane_start verses s + number) c.0 box small l place.inside c.1 c.2;
-        inside =
-            left_inside (length columns) (reach_at column_reach columns) (gaps_of verses) spring width at h r
-            (lane_start verses s + number) c.0 l place.inside c.1;
-        ends =
-            right_inside (length columns) (reach_at column_reach columns) (gaps_of verses) spring width at h r
-            (lane_start verses s + number) c.0 l place.inside c.1;
+        left = both.0;
+        right = both.1;
+        inside = left_inside (length columns) reach (gaps_of verses) spring width at h r lane c.0 l place.inside c.1;
+        ends = right_inside (length columns) reach (gaps_of verses) spring width at h r lane c.0 l place.inside c.1;
       }
 
   two_apart : (x y : Laid) (r q : ℕ) (first second : Sides)
