@@ -1,8 +1,10 @@
-ghost use Rattle.std.specs.{Prelude.◌≡◌, Prelude.◌+ℤ◌, Prelude.◌≤◌, Prelude.length, Int.int_min, Int.int_max};
-ghost use Rattle.mus_laid.specs.Distances.{big_width};
+ghost use Rattle.std.specs.{Prelude.◌≡◌, Prelude.pos, Prelude.◌+ℤ◌, Prelude.◌≤◌, Prelude.length};
+ghost use Rattle.std.specs.Int.{int_min, int_max};
+ghost use Rattle.mus_laid.specs.Distances.{big_width, top_line};
 ghost use Rattle.mus_laid.specs.Boxes.{IsGoodMark, character_width, text_low, text_high, glyph_heights, text_heights};
 ghost use Rattle.mus_laid.specs.Boxes.{stem_heights, beam_heights, over_four, arc_heights, heights_of, glyph_sides};
-ghost use Rattle.mus_laid.specs.Boxes.{text_sides, sides_of, union_of_heights, staff_heights};
+ghost use Rattle.mus_laid.specs.Boxes.{text_sides, sides_of, union_of_heights, heights, over_marks};
+ghost use Rattle.mus_laid.specs.Boxes.{staff_heights};
 
 use crate::distances::{
     BEAM_THICKNESS, BIG_ABOVE, BIG_BELOW, BIG_WIDTH, SMALL_ABOVE, SMALL_BELOW, SMALL_WIDTH,
@@ -192,16 +194,30 @@ fn widened(a: HeightRange, b: HeightRange) -> HeightRange
     }
 }
 
+/// Returns the heights of the lines of a staff.
+pub fn lines_heights() -> HeightRange
+    ensures { result ≡ heights (pos 0) (pos top_line) }
+{
+    HeightRange {
+        low: 0,
+        high: i64::from(TOP_LINE),
+    }
+}
+
+/// Returns a range of heights, widened to the boxes of all marks.
+pub fn heights_over(range: HeightRange, marks: &[Laid]) -> HeightRange
+    ensures { result ≡ over_marks range marks.now }
+{
+    let mut range = range;
+    for laid in marks {
+        range = widened(range, heights_of(&laid.mark));
+    }
+    range
+}
+
 /// Returns the least and the greatest height of the boxes of all marks, covering at least the lines of the staff.
 pub fn staff_heights(marks: &[Laid]) -> HeightRange
     ensures { result ≡ staff_heights marks.now }
 {
-    let mut so_far = HeightRange {
-        low: 0,
-        high: i64::from(TOP_LINE),
-    };
-    for laid in marks {
-        so_far = widened(so_far, heights_of(&laid.mark));
-    }
-    so_far
+    heights_over(lines_heights(), marks)
 }

@@ -11,7 +11,10 @@ pub mod pen;
 pub mod printing;
 pub mod ranking;
 
-pub use boxes::{HeightRange, Sides, character_width, heights_of, sides_of, staff_heights};
+pub use boxes::{
+    HeightRange, Sides, character_width, heights_of, heights_over, lines_heights, sides_of,
+    staff_heights,
+};
 pub use columns::{anchor_rank, by_columns};
 pub use distances::{BEAM_THICKNESS, TOP_LINE};
 pub use drawn::{Bridge, BridgeShape, Ink, LaneInk};

@@ -158,7 +158,8 @@ fn put_words(pen: &mut MarkPen, place: Option<&WordRoom>, flat: &Flat<'_>) -> Re
     let words = flat.event().words.as_slice();
     put_syllables(pen, place.first, place.room.low, words)?;
     let before = texts_at(place.before.as_slice(), pen.rank as usize);
-    put_texts(pen, text_place(place.room, before), flat)
+    put_texts(pen, text_place(place.room, before), flat)?;
+    Ok(())
 }
 
 /// Draws an event without its syllables and texts.

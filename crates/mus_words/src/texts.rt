@@ -1,7 +1,8 @@
-ghost use Rattle.std.specs.Prelude.{◌≡◌, ◌≤◌, ◌+◌, ◌*◌, ◌++◌, ◌-ℤ◌, pos, min, flat_map, IfOk, OnOk};
+ghost use Rattle.std.specs.Prelude.{◌≡◌, ◌≤◌, ◌+◌, ◌*◌, ◌++◌, ◌-ℤ◌, pos, min, length, flat_map, IfOk, OnOk};
 ghost use Rattle.mus_ink.specs.Distances.{text_step, verse_step};
 ghost use Rattle.mus_words.specs.Texts.{shown_ending, shown_number, shown_deco, shown_mention, texts_above};
 ghost use Rattle.mus_words.specs.Texts.{texts_below, above_dy, below_dy, above_from, below_from, text_marks};
+ghost use Rattle.mus_words.specs.Texts.{place_past};
 ghost use Rattle.mus_laid.specs.Ranked.{inked};
 
 use crate::words::{add_shown, put_words};
@@ -222,20 +223,33 @@ fn put_below(
     Ok(())
 }
 
+/// Returns the place of further texts in a column, after so many above and below.
+fn place_past(place: TextPlace, above: usize, below: usize) -> Result<TextPlace, Memory>
+    ensures { IfOk result (λ p. p ≡ place_past place above below) }
+{
+    Ok(TextPlace {
+        low: place.low,
+        high: place.high,
+        verses: place.verses,
+        above: place.above.checked_add(above).ok_or(Memory)?,
+        below: place.below.checked_add(below).ok_or(Memory)?,
+    })
+}
+
 /// Draws the texts of an event, 270 u to the left of its column: first those above, the first of a column at `high` +
 /// 400 and each next one 1000 u higher, then those below, the first 1000 u under the last verse and each next one
-/// 1000 u lower. A text that prints nothing is no mark and takes no place. Each dy is clamped to ±2^30 u. The only
-/// error is out of memory.
+/// 1000 u lower. A text that prints nothing is no mark and takes no place. Each dy is clamped to ±2^30 u. Returns the
+/// place of further texts in the column. The only error is out of memory.
 #[tactic(auto, unfolding(crate::specs::Texts::text_marks))]
-pub fn put_texts(pen: &mut MarkPen, place: TextPlace, flat: &Flat<'_>) -> Result<(), Memory>
-    ensures { OnOk result (pen.new ≡ inked pen.old (text_marks place flat.now)) }
+pub fn put_texts(pen: &mut MarkPen, place: TextPlace, flat: &Flat<'_>) -> Result<TextPlace, Memory>
+    ensures drawn { OnOk result (pen.new ≡ inked pen.old (text_marks place flat.now)) }
+    ensures place { IfOk result
+        (λ p. p ≡ place_past place (length (texts_above flat.now)) (length (texts_below flat.now))) }
 {
-    put_above(pen, place.high, place.above, texts_above(pen.alloc, flat)?)?;
-    put_below(
-        pen,
-        place.low,
-        place.verses,
-        place.below,
-        texts_below(pen.alloc, flat)?,
-    )
+    let above = texts_above(pen.alloc, flat)?;
+    let below = texts_below(pen.alloc, flat)?;
+    let further = place_past(place, above.len(), below.len())?;
+    put_above(pen, place.high, place.above, above)?;
+    put_below(pen, place.low, place.verses, place.below, below)?;
+    Ok(further)
 }
