@@ -19,7 +19,7 @@ use Rattle.mus_laid.specs.declared.drawn.LaneInk.{LaneInk}
 use Rattle.mus_laid.specs.declared.laid.Laid.{Laid}
 use Rattle.mus_laid.specs.Ranked.{drawn_at, ink_at, stands_at_rank}
 
-false_not_true : false ≡ true → ⊥
+pub false_not_true : false ≡ true → ⊥
 false_not_true h = cc
 
 -- ---- keys
@@ -248,7 +248,7 @@ module _ {S : Type 0} (key : S → ColumnKey) where
         by (Ink.Words size dx dy text) = refl
         by (Ink.Stem dx from to) = refl
 
-    column_kept : (r q : ℕ) (b : Bool) (ds : List LaneInk)
+    pub column_kept : (r q : ℕ) (b : Bool) (ds : List LaneInk)
         → (r == q) ≡ b → filter (stands_at_rank r) (map (drawn_at q) ds) ≡ (if b then map (drawn_at q) ds else [])
     column_kept r q true [] e = refl
     column_kept r q false [] e = refl

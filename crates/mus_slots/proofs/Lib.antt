@@ -1,8 +1,10 @@
 pub mod ByKey
 pub mod Filled
+pub mod InColumns
 pub mod KeysOf
 pub mod Marks
 pub mod Parts
 pub mod Plans
 pub mod Ranges
 pub mod Rising
+pub mod Words

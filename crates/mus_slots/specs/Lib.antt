@@ -1,2 +1,3 @@
 pub mod Staff
 pub mod Voice
+pub mod Words

@@ -3,6 +3,7 @@
 use Rattle.std.specs.Prelude.{ℕ, ◌+◌, List, [], ◌∷◌, ◌++◌, filter, flat_map, length, map}
 use Rattle.mus_onsets.specs.declared.keys.ColumnKey.{ColumnKey}
 use Rattle.mus_onsets.specs.Order.{key_rank, same_key}
+use Rattle.mus_laid.specs.declared.boxes.HeightRange.{HeightRange}
 use Rattle.mus_laid.specs.declared.drawn.LaneInk.{LaneInk}
 use Rattle.mus_laid.specs.declared.laid.Laid.{Laid}
 use Rattle.mus_laid.specs.Boxes.{staff_heights}
@@ -56,15 +57,13 @@ bridges_at keys voices = map (bridge_at keys) (flat_map (λ v. v.bridges) voices
 abbrev pub bare_laid : List ColumnKey → List VoiceSlots → List Laid
 bare_laid keys voices = flat_map (bare_slots keys) voices ++ bridges_at keys voices
 
--- words are outside of all other marks of their staff, whose verses have this number
+-- the first words of a column are outside of the heights of all other marks of their staff, which has so many verses
+abbrev pub place_over : ℕ → HeightRange → TextPlace
+place_over verses heights =
+    record { low = cut_dy heights.low; high = cut_dy heights.high; verses = verses; above = 0; below = 0 }
+
 abbrev pub place_outside : ℕ → List Laid → TextPlace
-place_outside verses others = record {
-  low = cut_dy (staff_heights others).low;
-  high = cut_dy (staff_heights others).high;
-  verses = verses;
-  above = 0;
-  below = 0;
-}
+place_outside verses others = place_over verses (staff_heights others)
 
 abbrev pub column_at : List ColumnKey → TextPlace → List (List Slot) → ColumnKey → List Laid
 column_at keys place voices key = map (drawn_at (key_rank keys key)) (column_marks place (column_slots key voices))
@@ -72,7 +71,9 @@ column_at keys place voices key = map (drawn_at (key_rank keys key)) (column_mar
 abbrev pub all_slots : List VoiceSlots → List (List Slot)
 all_slots voices = map (λ v. v.slots) voices
 
-unfoldable pub staff_laid : List ColumnKey → ℕ → List VoiceSlots → List Laid
-staff_laid keys verses voices =
+abbrev pub staff_columns : List ColumnKey → ℕ → List VoiceSlots → List Laid
+staff_columns keys verses voices =
     flat_map (column_at keys (place_outside verses (bare_laid keys voices)) (all_slots voices)) keys
-    ++ bridges_at keys voices
+
+unfoldable pub staff_laid : List ColumnKey → ℕ → List VoiceSlots → List Laid
+staff_laid keys verses voices = staff_columns keys verses voices ++ bridges_at keys voices
