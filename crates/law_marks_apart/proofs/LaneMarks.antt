@@ -11,7 +11,7 @@ use Rattle.mus_ink.specs.Signatures.{meter_marks}
 use Rattle.mus_drawn.specs.declared.drawn.DrawnVoice.{DrawnVoice}
 use Rattle.mus_slots.proofs.Marks.{FitsVoice, OfLaid, staff_all}
 use Rattle.mus_marks.specs.Staff.{staff_over, verses_on}
-use Rattle.law_slots.specs.Slotted.{slotted_staff}
+use Rattle.mus_marks.specs.Staff.{slotted_staff}
 use Rattle.law_marks_apart.proofs.LaneGaps.{HasLane}
 
 module _ (verses : ℕ) where

@@ -21,8 +21,8 @@ use Rattle.mus_slots.proofs.Marks.{FitsVoice}
 use Rattle.mus_marks.specs.Staff.{verses_on}
 use Rattle.mus_marks.specs.System.{drawn_staves, is_drawn_lower}
 use Rattle.mus_marks.proofs.Fitting.{staves_fit}
-use Rattle.law_slots.specs.Slotted.{slotted_staff}
-use Rattle.law_slots.proofs.Systems.{marks_are_slots}
+use Rattle.mus_marks.specs.Staff.{slotted_staff}
+use Rattle.mus_marks.proofs.SystemSlots.{marks_are_slots}
 use Rattle.lay_springs.specs.declared.margin.Placed.{Placed}
 use Rattle.lay_springs.specs.Place.{length_at, reach_at}
 use Rattle.lay_reaches.specs.Columns.{column_reach}

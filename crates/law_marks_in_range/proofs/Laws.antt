@@ -28,9 +28,9 @@ use Rattle.mus_marks.specs.Staff.{staff_over, verses_on}
 use Rattle.mus_marks.specs.System.{IsCall, drawn_staves, is_drawn_lower}
 use Rattle.mus_marks.proofs.Fitting.{staves_fit}
 use Rattle.mus_marks.proofs.Groups.{grouped_all, grouped_whole}
-use Rattle.law_slots.specs.Slotted.{slotted_staff}
-use Rattle.law_slots.proofs.Placed.{IsReady, all_ready}
-use Rattle.law_slots.proofs.Systems.{marks_are_slots}
+use Rattle.mus_marks.specs.Staff.{slotted_staff}
+use Rattle.mus_marks.proofs.Placed.{IsReady, all_ready}
+use Rattle.mus_marks.proofs.SystemSlots.{marks_are_slots}
 use Rattle.law_marks_in_range.specs.Ranks.{AreAnchored, AreMarksRanked, IsRanked, marks_ranks, staves_ranks}
 use Rattle.law_marks_in_range.specs.Shown.{IsShown}
 use Rattle.law_marks_in_range.specs.Texts.{HavePrinted}

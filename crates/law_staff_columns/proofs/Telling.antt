@@ -42,10 +42,10 @@ use Rattle.mus_slots.specs.Voice.{slots_of_voices, voice_slots}
 use Rattle.mus_slots.proofs.Filled.{no_marks}
 use Rattle.mus_marks.specs.Staff.{staff_marks, verses_on}
 use Rattle.mus_marks.specs.Tilt.{sloped_over, voice_tilted}
-use Rattle.law_slots.proofs.Columns.{IsSlotted, slots_inside, slots_rise}
-use Rattle.law_slots.proofs.Placed.{IsReady, all_ready}
-use Rattle.law_slots.proofs.Staves.{staff_same}
-use Rattle.law_slots.proofs.Tilted.{ended_slotted}
+use Rattle.mus_marks.proofs.Columns.{IsSlotted, slots_inside, slots_rise}
+use Rattle.mus_marks.proofs.Placed.{IsReady, all_ready}
+use Rattle.mus_marks.proofs.StaffSlots.{staff_same}
+use Rattle.mus_marks.proofs.Tilted.{ended_slotted}
 use Rattle.ps_heard.specs.declared.column.HeardColumn.{HeardColumn}
 use Rattle.ps_heard.specs.declared.column.HeardGlyph.{HeardGlyph}
 use Rattle.ps_heard.specs.declared.column.Role.{Role}

@@ -31,7 +31,7 @@ use Rattle.mus_marks.specs.System.{drawn_staves}
 use Rattle.mus_marks.proofs.Fitting.{staves_fit}
 use Rattle.mus_marks.proofs.Parts.{columns_all, Fits, FitsMeasure, FitsVoice, measures_all}
 use Rattle.mus_marks.proofs.GoodMarks.{goods, IsGood}
-use Rattle.law_slots.proofs.Laid.{columns_laid, measures_laid}
+use Rattle.mus_marks.proofs.VoiceSlots.{columns_laid, measures_laid}
 use Rattle.lay_reaches.specs.declared.column.Column.{Column}
 use Rattle.lay_reaches.specs.Columns.{StandsWhereDue}
 use Rattle.lay_reaches.specs.Widened.{HaveGoodMarks}

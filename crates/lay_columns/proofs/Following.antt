@@ -34,7 +34,7 @@ use Rattle.mus_marks.specs.Events.{changes_nothing}
 use Rattle.mus_marks.specs.System.{drawn_staves, is_drawn_lower}
 use Rattle.mus_marks.proofs.Groups.{grouped_all}
 use Rattle.mus_marks.proofs.Inside.{head_inside}
-use Rattle.law_slots.proofs.Placed.{IsReady, all_ready}
+use Rattle.mus_marks.proofs.Placed.{IsReady, all_ready}
 use Rattle.lay_reaches.specs.declared.column.Column.{Column}
 use Rattle.lay_columns.specs.Measures.{AreFurther, AreMeasureColumns, begins_plain, first_plain, is_plain, keys_in}
 use Rattle.lay_columns.proofs.HeadKeys.{HasHead, own_keys}

@@ -23,7 +23,7 @@ use Rattle.mus_slots.proofs.Ranges.{voice_more}
 use Rattle.mus_marks.specs.System.{IsCall, drawn_staves, is_drawn_lower}
 use Rattle.mus_marks.proofs.Groups.{grouped_all}
 use Rattle.mus_marks.proofs.OneList.{same_keys}
-use Rattle.law_slots.proofs.Systems.{marks_are_slots}
+use Rattle.mus_marks.proofs.SystemSlots.{marks_are_slots}
 use Rattle.lay_reaches.specs.declared.column.Column.{Column}
 use Rattle.lay_reaches.specs.Columns.{columns_of}
 use Rattle.lay_reaches.proofs.Keyed.{keyed_append}

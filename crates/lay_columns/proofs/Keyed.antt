@@ -26,8 +26,8 @@ use Rattle.mus_marks.specs.Staff.{staff_over, verses_on}
 use Rattle.mus_marks.specs.System.{drawn_staves, is_drawn_lower}
 use Rattle.mus_marks.proofs.Groups.{grouped_all}
 use Rattle.mus_marks.proofs.Inside.{AreAmong, among_left, among_right, here, there}
-use Rattle.law_slots.specs.Slotted.{slotted_staff}
-use Rattle.law_slots.proofs.Placed.{voice_seated}
+use Rattle.mus_marks.specs.Staff.{slotted_staff}
+use Rattle.mus_marks.proofs.Placed.{voice_seated}
 use Rattle.lay_reaches.specs.declared.column.Column.{Column}
 use Rattle.lay_reaches.specs.Columns.{columns_of}
 use Rattle.lay_reaches.specs.Reaches.{box_at, boxes_at}

@@ -7,9 +7,9 @@ use Rattle.mus_score.specs.Seats.{grouped}
 use Rattle.mus_onsets.specs.declared.keys.ColumnKey.{ColumnKey}
 use Rattle.mus_drawn.specs.declared.drawn.DrawnVoice.{DrawnVoice}
 use Rattle.mus_drawn.specs.Good.{AreGoodMeasures}
-use Rattle.mus_marks.specs.Staff.{staff_marks, verses_on}
+use Rattle.mus_marks.specs.Staff.{slotted_staff, verses_on}
 use Rattle.mus_marks.specs.System.{is_drawn_lower}
-use Rattle.mus_marks.specs.Tilt.{over, sloped_over, tilted_staff, voice_ended, voice_tilted}
+use Rattle.mus_marks.specs.Tilt.{over, sloped_over, tilted_slots, voice_ended, voice_tilted}
 use Rattle.mus_marks.proofs.Ending.{ended_good, ended_length}
 use Rattle.mus_marks.proofs.Groups.{grouped_map}
 
@@ -47,14 +47,18 @@ module _ (keys : List ColumnKey) (at : List ℤ) (a b : ℕ) where
       let v = slice_index_or vs k d in
       ended_good a (sloped_over keys at a (slice_range v.measures a b)) v (good k d inside)))
 
+  pub tilted_all : (P : DrawnVoice → Type 0) (vs ws : List DrawnVoice)
+      → ws ≡ map (voice_tilted keys at a b) vs → All (λ v. P (voice_tilted keys at a b v)) vs → All P ws
+  tilted_all P vs ws is each = subst (All P) (sym is) (All-map P (voice_tilted keys at a b) vs each)
+
   pub tilted_verses : (vs ws : List DrawnVoice) → ws ≡ map (voice_tilted keys at a b) vs → verses_on ws ≡ verses_on vs
   tilted_verses vs ws is = ap verses_on is ∙ ap sum (map-map (λ v. v.verses) (voice_tilted keys at a b) vs)
 
   -- the staves of tilted voices are the tilted staves
   pub staves_tilted : (lengths : List ℕ) (vs : List DrawnVoice)
-      → map (staff_marks keys lengths a b) (grouped is_drawn_lower (map (voice_tilted keys at a b) vs))
-      ≡ map (tilted_staff keys lengths at a b) (grouped is_drawn_lower vs)
+      → map (slotted_staff keys lengths a b) (grouped is_drawn_lower (map (voice_tilted keys at a b) vs))
+      ≡ map (tilted_slots keys lengths at a b) (grouped is_drawn_lower vs)
   staves_tilted lengths vs =
-      ap (map (staff_marks keys lengths a b))
+      ap (map (slotted_staff keys lengths a b))
       (grouped_map (voice_tilted keys at a b) is_drawn_lower is_drawn_lower (λ v. refl) vs)
-      ∙ map-map (staff_marks keys lengths a b) (map (voice_tilted keys at a b)) (grouped is_drawn_lower vs)
+      ∙ map-map (slotted_staff keys lengths a b) (map (voice_tilted keys at a b)) (grouped is_drawn_lower vs)

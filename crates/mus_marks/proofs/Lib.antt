@@ -1,7 +1,9 @@
 pub mod Alike
 pub mod AllTilted
 pub mod Columned
+pub mod Columns
 pub mod Counts
+pub mod Drawing
 pub mod Ending
 pub mod Fitting
 pub mod GoingOn
@@ -15,4 +17,8 @@ pub mod Parts
 pub mod Placed
 pub mod Silent
 pub mod Sloping
+pub mod StaffSlots
+pub mod SystemSlots
+pub mod Tilted
 pub mod Unchanged
+pub mod VoiceSlots

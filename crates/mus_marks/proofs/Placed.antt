@@ -1,74 +1,186 @@
--- The word rooms of the voices of a staff, one after another.
-use Rattle.std.proofs.Common.{◌≡◌, ◌∙◌, ℕ, ◌+◌, ◌≤◌, ◌==◌, not, Bool, true, false, List, [], ◌∷◌, ◌++◌, length, Some}
-use Rattle.std.proofs.Common.{refl, sym, ap, append_assoc, arith}
-use Rattle.std.proofs.lemmas.Bool.Decides.{nat_tests}
+-- The voices of a good score have their slots in the columns of a system, one after another.
+use Rattle.std.proofs.Common.{◌≡◌, ℕ, ◌+◌, ◌-◌, ◌<◌, ◌≤◌, ◌==◌, ◌||◌, Bool, true, false, if◌then◌else◌, List, []}
+use Rattle.std.proofs.Common.{◌∷◌, length, length-drop, length-take, map, drop, Some, None, refl, subst}
+use Rattle.std.proofs.Common.{arith}
+use Rattle.std.proofs.lemmas.List.Elements.{All-contains, recursion_from_All}
+use Rattle.std.specs.List.{All, AllByRecursion, Contains, slice_index, slice_range}
+use Rattle.std.specs.Prelude.{IfSome}
+use Rattle.mus_units.specs.declared.key.Meter.{Meter}
+use Rattle.mus_units.specs.Good.{IsGoodMeter}
+use Rattle.mus_score.specs.declared.score.Flat.{Flat}
+use Rattle.mus_score.specs.declared.score.Measure.{Measure}
+use Rattle.mus_score.specs.declared.score.Score.{Score}
+use Rattle.mus_score.specs.declared.score.Voice.{Voice}
+use Rattle.mus_score.specs.GoodScore.{IsGoodScore, IsGoodVoice}
+use Rattle.mus_score.specs.Seats.{is_lower}
+use Rattle.mus_score.specs.Times.{flats_of}
 use Rattle.mus_onsets.specs.declared.keys.ColumnKey.{ColumnKey}
-use Rattle.mus_laid.specs.declared.laid.Laid.{Laid}
+use Rattle.mus_onsets.specs.declared.times.Timeline.{Timeline}
+use Rattle.mus_onsets.specs.Keys.{AreKeys, IsInSystem, called_keys, voice_keys}
+use Rattle.mus_onsets.specs.Onsets.{timeline_of}
+use Rattle.mus_stems.specs.declared.plans.StemPlan.{StemPlan}
+use Rattle.mus_stems.proofs.RunLaws.{all_drop, all_take}
+use Rattle.mus_ink.proofs.EachMark.{bar, change, grace, head, note}
+use Rattle.mus_drawn.specs.declared.drawn.DrawnEvent.{DrawnEvent}
+use Rattle.mus_drawn.specs.declared.drawn.DrawnMeasure.{DrawnMeasure}
 use Rattle.mus_drawn.specs.declared.drawn.DrawnVoice.{DrawnVoice}
-use Rattle.mus_marks.specs.declared.events.WordRoom.{WordRoom}
-use Rattle.mus_marks.specs.declared.events.StaffRoom.{StaffRoom}
-use Rattle.mus_marks.specs.Places.{word_room_after}
-use Rattle.mus_marks.specs.Staff.{own_part, texts_after, verses_on, written_parts}
-use Rattle.mus_marks.proofs.Parts.{verses_cons}
+use Rattle.mus_drawn.specs.declared.drawn.Style.{Style}
+use Rattle.mus_drawn.specs.declared.standing.StaffState.{StaffState}
+use Rattle.mus_drawn.specs.Drawn.{drawn_events, drawn_measure, drawn_measures, drawn_voice, raise_of, staff_state_after}
+use Rattle.mus_drawn.specs.Drawn.{standing_after, standing_of, style_of}
+use Rattle.mus_time.specs.Columns.{note_key}
+use Rattle.mus_time.proofs.Called.{keys_placed, staff_same}
+use Rattle.mus_time.proofs.Counts.{voice_count}
+use Rattle.mus_slots.specs.declared.slots.Slot.{Slot}
+use Rattle.mus_slots.proofs.KeysOf.{AreSeated, IsSeated, voice_keyed}
+use Rattle.mus_slots.proofs.Parts.{OfSlots, voice_all}
+use Rattle.mus_slots.proofs.Rising.{AreTimed, TicksRise, voice_rises}
+use Rattle.mus_marks.proofs.Fitting.{voice_fits}
+use Rattle.mus_marks.proofs.GoingOn.{AllGoOn, GoOn, IsEarlier, voice_goes_on}
+use Rattle.mus_marks.proofs.Inside.{AreAmong, HasEvent, HasMeasures, here, measures_inside, there, voices_called}
+use Rattle.mus_marks.proofs.Parts.{FitsEvent, FitsVoice}
+use Rattle.mus_marks.proofs.Columns.{IsSlotted}
+use Rattle.mus_marks.proofs.Counts.{IsAside, marks_aside}
 
-module _ (columns : ℕ) (v : DrawnVoice) (following rest : List DrawnVoice) (place next : WordRoom) (part : List Laid)
-    (follows : Bool) (prefix : rest ≡ v ∷ following)
-    (is : next ≡ word_room_after columns place v.verses part follows) where
-  pub next_room : next.room ≡ place.room
-  next_room = ap (λ p. p.room) is ∙ by follows
-    where
-      by : (b : Bool) → (word_room_after columns place v.verses part b).room ≡ place.room
-      by true = refl
-      by false = refl
+-- ---- the marks of slots are aside from texts
+if_meter : (b : Bool) (m : Meter) → IsGoodMeter m → IfSome (if b then Some m else None) IsGoodMeter
+if_meter true m good = good
+if_meter false m good = tt
 
-  pub next_first : place.first + verses_on rest ≤ 128 → next.first + verses_on following ≤ 128
-  next_first few =
-      let count = ap verses_on prefix ∙ verses_cons v following in
-      let first = ap (λ p. p.first) is in
-      by follows (omega (arith, few, count)) first
-    where
-      by : (b : Bool) → place.first + (v.verses + verses_on following) ≤ 128
-          → next.first ≡ (word_room_after columns place v.verses part b).first
-          → next.first + verses_on following ≤ 128
-      by true h e = omega (arith, h, e)
-      by false h e = omega (arith, h, e)
+abbrev pub AllAside : Slot → Type 0
+AllAside s = AllByRecursion IsAside s.drawn
 
-pub none_after : (n : ℕ) (none : Bool) → none ≡ (n == 0) → not none ≡ false → n ≡ 0
-none_after n true e f = let zero : (n == 0) ≡ true = sym e in grind (arith, nat_tests, zero)
-none_after n false e f = absurd (grind (arith, f))
+pub slots_aside : (verses first : ℕ) (lengths : List ℕ)
+    → OfSlots first lengths AllAside (FitsEvent verses) (λ d. IsGoodMeter d.opening.meter)
+slots_aside verses first lengths = record {
+  of_head =
+      λ a d good.
+      head IsAside marks_aside d.opening.clef d.opening.key.signs _
+      (if_meter ((a == 0) || d.opening.anew) d.opening.meter good);
+  of_first = λ b. bar IsAside marks_aside b;
+  of_change = λ m e fits marked. change IsAside marks_aside e.clef e.old e.flat.event.changes fits.0;
+  of_grace = λ m tick clef group i g. grace IsAside marks_aside clef group (i == 0) g;
+  of_note =
+      λ m before after e fits.
+      note IsAside marks_aside e.clef (raise_of e.seat) e.flat.event e.plan before after;
+  of_bar = λ m d good. bar IsAside marks_aside d.bar;
+}
 
--- a turn of the walk over the voices of a staff
-module _ (keys : List ColumnKey) (lengths : List ℕ) (room : StaffRoom) (a b : ℕ) where
-  follow : (v : DrawnVoice) (following : List DrawnVoice) (place : WordRoom) (part : List Laid) (follows : Bool)
-      → (follows ≡ false → length following ≡ 0)
-      → written_parts keys lengths room a b (word_room_after (length keys) place v.verses part follows).first
-      (word_room_after (length keys) place v.verses part follows).before following
-      ≡ written_parts keys lengths room a b (place.first + v.verses) (texts_after (length keys) place.before part)
-      following
-  follow v [] place part follows none = refl
-  follow v (w ∷ ws) place part true none = refl
-  follow v (w ∷ ws) place part false none = let few = none refl in absurd (omega (arith, few))
+-- ---- the events of a voice have its seat
+events_seated : (style : Style) (tick : ℕ) (now : StaffState) (fs : List Flat) (ps : List StemPlan)
+    → AreSeated (is_lower style.seat) (drawn_events style tick now fs ps)
+events_seated style tick now [] ps = tt
+events_seated style tick now (f ∷ fs) [] = tt
+events_seated style tick now (f ∷ fs) (p ∷ ps) =
+    (refl, events_seated style (tick + f.duration) (standing_after now f.event.changes) fs ps)
 
-  pub next_part : (v : DrawnVoice) (following rest : List DrawnVoice) (place next : WordRoom) (part : List Laid)
-      (parts new whole : List (List Laid)) (follows : Bool)
-      → rest ≡ v ∷ following → place.room ≡ room
-      → part ≡ own_part keys lengths (Some place) a b v
-      → next ≡ word_room_after (length keys) place v.verses part follows
-      → (follows ≡ false → length following ≡ 0)
-      → new ≡ parts ++ part ∷ []
-      → parts ++ written_parts keys lengths room a b place.first place.before rest ≡ whole
-      → new ++ written_parts keys lengths room a b next.first next.before following ≡ whole
-  next_part v following rest place next part parts new whole follows prefix own drawn is none put so_far =
-      let more = λ (p : WordRoom). written_parts keys lengths room a b p.first p.before following in
-      let drawn_in = drawn
-      ∙ ap (λ r. own_part keys lengths (Some (record { room = r; first = place.first; before = place.before })) a b v)
-      own in
-      ap (λ t. t ++ more next) put
-      ∙ append_assoc parts (part ∷ []) (more next)
-      ∙ ap (λ t. parts ++ part ∷ t) (ap more is ∙ follow v following place part follows none)
-      ∙ ap (λ o.
-      parts ++ o
-      ∷ written_parts keys lengths room a b (place.first + v.verses) (texts_after (length keys) place.before o)
-      following)
-      drawn_in
-      ∙ ap (λ t. parts ++ written_parts keys lengths room a b place.first place.before t) (sym prefix) ∙ so_far
+measure_seated : (style : Style) (now : StaffState) (m : Measure)
+    → IsSeated (is_lower style.seat) (drawn_measure style now m)
+unfolding drawn_measure
+measure_seated style now m = (refl, events_seated style 0 now (flats_of m.body) _)
+
+measures_seated : (style : Style) (now : StaffState) (ms : List Measure)
+    → AllByRecursion (IsSeated (is_lower style.seat)) (drawn_measures style now ms)
+measures_seated style now [] = tt
+measures_seated style now (m ∷ ms) =
+    (measure_seated style now m, measures_seated style (staff_state_after now (flats_of m.body)) ms)
+
+pub voice_seated : (v : Voice) → AllByRecursion (IsSeated (is_lower (drawn_voice v).seat)) (drawn_voice v).measures
+unfolding drawn_voice
+voice_seated v = measures_seated (style_of v) (standing_of v) v.measures
+
+-- ---- and come one after another, within their measures
+ticks_rise : (low high : ℕ) (es : List DrawnEvent)
+    → GoOn es → AllByRecursion (λ e. low ≤ e.tick) es → AllByRecursion (λ e. e.tick ≤ high) es → TicksRise low high es
+ticks_rise low high [] on from to = tt
+ticks_rise low high (e ∷ es) on from to =
+    (from.0, to.0, ticks_rise (e.tick + 1) high es on.1 (later es on.0) to.1)
+  where
+    later : (fs : List DrawnEvent) → AllByRecursion (IsEarlier e) fs → AllByRecursion (λ f. e.tick + 1 ≤ f.tick) fs
+    later [] h = tt
+    later (f ∷ fs) h = let less = h.0.0 in (omega (arith, less), later fs h.1)
+
+from_zero : (es : List DrawnEvent) → AllByRecursion (λ e. 0 ≤ e.tick) es
+from_zero [] = tt
+from_zero (e ∷ es) = (omega arith, from_zero es)
+
+module _ (lengths : List ℕ) (a b : ℕ) (keys : List ColumnKey) (places : All (IsInSystem lengths a b) keys) where
+  ticks_within : (m : ℕ) (es : List DrawnEvent)
+      → AllByRecursion (HasEvent keys m) es → AllByRecursion (λ e. e.tick ≤ slice_index lengths m) es
+  ticks_within m [] has = tt
+  ticks_within m (e ∷ es) has =
+      ((All-contains (IsInSystem lengths a b) keys (note_key m e) places has.0.note).within, ticks_within m es has.1)
+
+  are_timed : (m : ℕ) (ds : List DrawnMeasure) → HasMeasures keys lengths m ds → AllGoOn ds → AreTimed lengths m ds
+  are_timed m [] has on = tt
+  are_timed m (d ∷ ds) has on = (
+    ticks_rise 0 (slice_index lengths m) d.events on.0 (from_zero d.events) (ticks_within m d.events has.0.events),
+    are_timed (m + 1) ds has.1 on.1,
+  )
+
+-- ---- all voices
+among_all : (some keys : List ColumnKey) → AreAmong some keys → AllByRecursion (Contains keys) some
+among_all [] keys h = tt
+among_all (k ∷ ks) keys h = (h k (here k ks), among_all ks keys (λ l has. h l (there l k ks has)))
+
+-- a voice of a system that is not empty, with its seat, its texts and its columns
+pub record IsReady (keys : List ColumnKey) (lengths : List ℕ) (a b : ℕ) (v : DrawnVoice) : Type 0 where
+  pub some : 1 ≤ length (slice_range v.measures a b)
+  pub seated : AllByRecursion (IsSeated (is_lower v.seat)) v.measures
+  pub fits : FitsVoice v
+  pub slotted : IsSlotted keys lengths a b v
+
+module _ (s : Score) (t : Timeline) (a b : ℕ) (keys : List ColumnKey) (timed : t ≡ timeline_of s)
+    (good : IsGoodScore s) (order : a < b) (within : b ≤ s.measures)
+    (are : AreKeys keys (called_keys s t.lengths a b)) where
+  places : All (IsInSystem t.lengths a b) keys
+  places = keys_placed s t a b keys timed good order within are
+
+  voice_ready : (v : Voice)
+      → IsGoodVoice v → length v.measures ≡ s.measures → AreAmong (voice_keys t.lengths a b v) keys
+      → HasMeasures keys t.lengths a (slice_range (drawn_voice v).measures a b)
+      → IsReady keys t.lengths a b (drawn_voice v)
+  voice_ready v fine all among has =
+      let w = drawn_voice v in
+      let on = all_take (λ d. GoOn d.events) (b - a) (drop a w.measures)
+      (all_drop (λ d. GoOn d.events) a w.measures (voice_goes_on v fine)) in
+      let dropped = length-drop a w.measures in
+      let taken = length-take (b - a) (drop a w.measures) in
+      let some : 1 ≤ length (slice_range w.measures a b) =
+      omega (arith, order, within, all, voice_count v, dropped, taken) in
+      record {
+        some = some;
+        seated = voice_seated v;
+        fits = voice_fits v fine;
+        slotted = record {
+          keyed = λ first. voice_keyed first t.lengths a b w some (voice_seated v);
+          rise =
+              voice_rises t.lengths a b w
+              (are_timed t.lengths a b keys places a (slice_range w.measures a b) has on);
+          inside =
+              subst (AllByRecursion (Contains keys)) (staff_same t.lengths a b v)
+              (among_all (voice_keys t.lengths a b v) keys among);
+          aside =
+              λ first.
+              voice_all first t.lengths AllAside (FitsEvent w.verses) (λ d. IsGoodMeter d.opening.meter)
+              (slots_aside w.verses first t.lengths) a b w (voice_fits v fine);
+        };
+      }
+
+  voices_ready : (vs : List Voice)
+      → AllByRecursion IsGoodVoice vs → AllByRecursion (λ v. length v.measures ≡ s.measures) vs
+      → AllByRecursion (λ v. AreAmong (voice_keys t.lengths a b v) keys) vs
+      → AllByRecursion (λ v. HasMeasures keys t.lengths a (slice_range (drawn_voice v).measures a b)) vs
+      → AllByRecursion (IsReady keys t.lengths a b) (map drawn_voice vs)
+  voices_ready [] fine all among has = tt
+  voices_ready (v ∷ vs) fine all among has =
+      (voice_ready v fine.0 all.0 among.0 has.0, voices_ready vs fine.1 all.1 among.1 has.1)
+
+  pub all_ready : AllByRecursion (IsReady keys t.lengths a b) (map drawn_voice s.voices)
+  all_ready =
+      voices_ready s.voices (recursion_from_All IsGoodVoice s.voices good.voices)
+      (recursion_from_All (λ v. length v.measures ≡ s.measures) s.voices good.measures)
+      (recursion_from_All (λ v. AreAmong (voice_keys t.lengths a b v) keys) s.voices
+      (voices_called s t.lengths a b keys are))
+      (recursion_from_All (λ v. HasMeasures keys t.lengths a (slice_range (drawn_voice v).measures a b)) s.voices
+      (measures_inside s t.lengths a b keys good within are))

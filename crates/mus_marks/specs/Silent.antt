@@ -1,13 +1,10 @@
--- Events that have no syllables and no texts. On a staff of such events it does not matter where these would go.
-use Rattle.std.specs.Prelude.{◌≡◌, ℕ, Bool, true, false, not, ◌&&◌, ◌==◌, is_none, List, [], length, slice_range}
+-- Events that have no syllables and no texts.
+use Rattle.std.specs.Prelude.{ℕ, Bool, true, false, not, ◌&&◌, ◌==◌, is_none, List, length, slice_range}
 use Rattle.std.specs.List.{list_all}
 use Rattle.mus_units.specs.declared.note.Deco.{Deco}
 use Rattle.mus_score.specs.declared.score.Flat.{Flat}
-use Rattle.mus_onsets.specs.declared.keys.ColumnKey.{ColumnKey}
 use Rattle.mus_drawn.specs.declared.drawn.DrawnMeasure.{DrawnMeasure}
 use Rattle.mus_drawn.specs.declared.drawn.DrawnVoice.{DrawnVoice}
-use Rattle.mus_marks.specs.declared.events.StaffRoom.{StaffRoom}
-use Rattle.mus_marks.specs.Staff.{bare_marks, room_over, verses_on, written_parts}
 
 -- a fingering or a dynamic mark
 abbrev pub is_text : Deco → Bool
@@ -27,9 +24,3 @@ are_silent ds = list_all (λ d. list_all (λ e. is_silent e.flat) d.events) ds
 -- in measures a to b - 1
 abbrev pub is_silent_staff : ℕ → ℕ → List DrawnVoice → Bool
 is_silent_staff a b voices = list_all (λ v. are_silent (slice_range v.measures a b)) voices
-
--- a room in which voices are written as in the one that the marks of their staff leave
-abbrev pub FitsRoom : List ColumnKey → List ℕ → ℕ → ℕ → List DrawnVoice → StaffRoom → Type 0
-FitsRoom keys lengths a b voices room =
-    written_parts keys lengths room a b 0 [] voices
-    ≡ written_parts keys lengths (room_over (verses_on voices) (bare_marks keys lengths a b voices)) a b 0 [] voices

@@ -27,6 +27,8 @@ use Rattle.mus_drawn.specs.declared.drawn.DrawnMeasure.{DrawnMeasure}
 use Rattle.mus_drawn.specs.declared.drawn.DrawnVoice.{DrawnVoice}
 use Rattle.mus_drawn.specs.declared.drawn.SystemOpening.{SystemOpening}
 use Rattle.mus_bridges.specs.Bridges.{bridges_of}
+use Rattle.mus_slots.specs.Staff.{staff_laid}
+use Rattle.mus_slots.specs.Voice.{slots_of_voices}
 use Rattle.mus_marks.specs.declared.events.WordRoom.{WordRoom}
 use Rattle.mus_marks.specs.declared.events.StaffRoom.{StaffRoom}
 use Rattle.mus_marks.specs.declared.events.TextCounts.{TextCounts}
@@ -126,6 +128,11 @@ staff_marks keys lengths a b voices =
     staff_over
     (by_columns (length keys) (written_parts keys lengths room a b 0 [] voices)
     ++ staff_bridges keys lengths a b voices)
+
+-- the same from the slots of the voices
+abbrev pub slotted_staff : List ColumnKey → List ℕ → ℕ → ℕ → List DrawnVoice → StaffMarks
+slotted_staff keys lengths a b voices =
+    staff_over (staff_laid keys (verses_on voices) (slots_of_voices 0 lengths a b voices))
 
 -- a staff covers at least its lines
 abbrev pub CoversLines : StaffMarks → Type 0

@@ -2,13 +2,13 @@
 //! with the rank of its column, and how low and how high they reach. It re-exports the types of marks of `mus_laid`.
 #![tactic(auto)]
 
-pub mod counting;
 pub mod events;
 pub mod measures;
 pub mod silence;
 pub mod staves;
 pub mod systems;
 pub mod tilting;
+pub mod words;
 
 pub use events::{StaffRoom, TextCounts, WordRoom, changes_nothing};
 pub use measures::{put_columns_part, put_measures};

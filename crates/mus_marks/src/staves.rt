@@ -1,27 +1,32 @@
-ghost use Rattle.std.specs.Prelude.{◌≡◌, ◌≤◌, ◌+◌, ◌++◌, [], length, map, flat_map, option_copied, Some, None, All};
-ghost use Rattle.std.specs.Prelude.{IfOk, OnOk};
+ghost use Rattle.std.specs.Prelude.{◌≡◌, ◌≤◌, ◌+◌, ◌++◌, length, map, flat_map, option_copied, None, All, IfOk, OnOk};
 ghost use Rattle.std.specs.List.{prefix_len};
 ghost use Rattle.mus_score.specs.Seats.{grouped};
+ghost use Rattle.mus_laid.specs.Boxes.{staff_heights};
 ghost use Rattle.mus_drawn.specs.Good.{AreGoodMeasures};
 ghost use Rattle.mus_bridges.specs.Bridges.{bridges_of};
-ghost use Rattle.mus_marks.specs.Places.{HasVerses, word_room_after};
-ghost use Rattle.mus_marks.specs.Silent.{FitsRoom, is_silent_staff};
-ghost use Rattle.mus_marks.specs.Staff.{CoversLines, own_part, room_over, staff_marks, staff_over, verses_on};
-ghost use Rattle.mus_marks.specs.Staff.{written_parts};
+ghost use Rattle.mus_slots.specs.Staff.{bare_laid, place_outside, place_over, staff_columns};
+ghost use Rattle.mus_slots.specs.Voice.{slots_of_voices};
+ghost use Rattle.mus_slots.specs.Words.{IsOrdered, with_words};
+ghost use Rattle.mus_marks.specs.Places.{HasVerses};
+ghost use Rattle.mus_marks.specs.Silent.{is_silent_staff};
+ghost use Rattle.mus_marks.specs.Staff.{CoversLines, own_part, slotted_staff, staff_over, verses_on};
 ghost use Rattle.mus_marks.specs.System.{is_drawn_lower};
 
-use crate::counting::texts_after;
-use crate::events::{StaffRoom, WordRoom};
+use crate::events::WordRoom;
 use crate::measures::put_columns_part;
 use crate::silence::are_silent;
+use crate::words::words_of;
 use mus_bridges::put_bridges_of;
 use mus_drawn::DrawnVoice;
 use mus_ink::drawing::cut_dy;
 use mus_laid::{
-    Bridge, Laid, MarkPen, StaffMarks, TOP_LINE, by_columns, put_bridges, staff_heights,
+    Bridge, HeightRange, Laid, MarkPen, StaffMarks, by_columns, heights_over, lines_heights,
+    put_bridges, staff_heights,
 };
+use mus_onsets::ColumnKey;
 use mus_time::SystemFrame;
 use mus_units::{Memory, Row};
+use mus_words::TextPlace;
 use std::alloc::Global;
 
 /// The number of beams and arcs that is enough for most measures; room for it is reserved at once.
@@ -66,36 +71,24 @@ fn bridges_on(
     Ok(out)
 }
 
-/// Draws all that voices have in columns except syllables and texts.
-fn put_bare_parts(
-    pen: &mut MarkPen,
+/// Returns what each voice has in the columns of a system, without syllables and texts.
+fn bare_parts(
+    alloc: Global,
     frame: &SystemFrame<'_>,
     voices: &[DrawnVoice<'_>],
-) -> Result<(), Memory>
+) -> Result<Row<Row<Laid>>, Memory>
     requires each { All (λ v. length v.measures ≡ length frame.now.lengths.now) voices.now }
     requires good { All (λ v. AreGoodMeasures v.measures) voices.now }
-    ensures { OnOk result
-        (pen.new.marks
-        ≡ pen.old.marks
-        ++ flat_map (own_part frame.now.keys.now frame.now.lengths.now None frame.now.a frame.now.b) voices.now) }
+    ensures { IfOk result
+        (λ r. r ≡ map (own_part frame.now.keys.now frame.now.lengths.now None frame.now.a frame.now.b) voices.now) }
 {
+    let mut parts = Row::with_room(alloc, voices.len())?;
     for v in voices {
-        put_own_part(pen, frame, None, v)?;
+        let mut pen = MarkPen::new(alloc);
+        put_own_part(&mut pen, frame, None, v)?;
+        parts.push(pen.marks)?;
     }
-    Ok(())
-}
-
-/// Returns the room that marks leave to syllables and texts.
-#[tactic(auto, unfolding(crate::specs::Staff::room_over))]
-fn room_over(verses: u8, marks: &[Laid]) -> StaffRoom
-    ensures { result ≡ room_over verses marks.now }
-{
-    let heights = staff_heights(marks);
-    StaffRoom {
-        low: cut_dy(heights.low),
-        high: cut_dy(heights.high),
-        verses,
-    }
+    Ok(parts)
 }
 
 /// Returns marks, with how low and how high they reach.
@@ -136,107 +129,124 @@ fn is_silent_staff(frame: &SystemFrame<'_>, voices: &[DrawnVoice<'_>]) -> bool
     true
 }
 
-/// Returns the room that all other marks of a staff leave to its syllables and texts, if it has any; `bridges` are
-/// its marks between columns.
-fn room_on(
+/// Returns the heights of the parts of a staff and of what is between its columns.
+fn heights_on(parts: &[Row<Laid>], between: &[Laid]) -> HeightRange
+    ensures { result ≡ staff_heights (flat_map (λ part. part) parts.now ++ between.now) }
+{
+    let mut heights = lines_heights();
+    for part in parts {
+        heights = heights_over(heights, part.as_slice());
+    }
+    heights_over(heights, between)
+}
+
+/// Returns the place of the first words of each column, outside of these heights of all other marks.
+fn place_over(verses: u8, heights: HeightRange) -> TextPlace
+    ensures { result ≡ place_over verses heights }
+{
+    TextPlace {
+        low: cut_dy(heights.low),
+        high: cut_dy(heights.high),
+        verses,
+        above: 0,
+        below: 0,
+    }
+}
+
+/// Returns the place of the first words of each column of a staff; `parts` are its other marks in columns, and
+/// `bridges` its marks between columns.
+fn place_on(
     alloc: Global,
     frame: &SystemFrame<'_>,
     voices: &[DrawnVoice<'_>],
+    parts: &[Row<Laid>],
     bridges: &[Bridge],
-) -> Result<StaffRoom, Memory>
-    requires each { All (λ v. length v.measures ≡ length frame.now.lengths.now) voices.now }
-    requires good { All (λ v. AreGoodMeasures v.measures) voices.now }
+) -> Result<TextPlace, Memory>
     requires verses { verses_on voices.now ≤ 128 }
+    requires parts { parts.now
+        ≡ map (own_part frame.now.keys.now frame.now.lengths.now None frame.now.a frame.now.b) voices.now }
     requires bridges { bridges.now ≡ flat_map (bridges_of frame.now.lengths.now frame.now.a frame.now.b) voices.now }
-    ensures { IfOk result (FitsRoom frame.now.keys.now frame.now.lengths.now frame.now.a frame.now.b voices.now) }
-{
-    if is_silent_staff(frame, voices) {
-        return Ok(StaffRoom {
-            low: 0,
-            high: TOP_LINE,
-            verses: 0,
-        });
-    }
-    let mut pen = MarkPen::new(alloc);
-    put_bare_parts(&mut pen, frame, voices)?;
-    put_bridges(&mut pen.marks, frame.keys, bridges)?;
-    Ok(room_over(verses_on(voices), pen.marks.as_slice()))
-}
-
-/// Returns the word room of the next voice of a staff, after the verses and the texts of the voice before it; if no
-/// voice follows, that of the last.
-fn word_room_after(
-    alloc: Global,
-    columns: usize,
-    place: WordRoom,
-    verses: u8,
-    part: &[Laid],
-    follows: bool,
-) -> Result<WordRoom, Memory>
-    requires { place.first + verses ≤ 128 }
-    ensures { IfOk result (λ p. p ≡ word_room_after columns place verses part.now follows) }
-{
-    if !follows {
-        return Ok(place);
-    }
-    Ok(WordRoom {
-        room: place.room,
-        first: place.first + verses,
-        before: texts_after(alloc, columns, place.before.as_slice(), part)?,
-    })
-}
-
-/// Returns what a voice has in columns, with its syllables and texts at their place.
-fn written_part(
-    alloc: Global,
-    frame: &SystemFrame<'_>,
-    place: &WordRoom,
-    v: &DrawnVoice<'_>,
-) -> Result<Row<Laid>, Memory>
-    requires lengths { length v.now.measures ≡ length frame.now.lengths.now }
-    requires good { AreGoodMeasures v.now.measures }
-    requires verses { place.now.first ≤ 128 }
     ensures { IfOk result
-        (λ r. r ≡ own_part frame.now.keys.now frame.now.lengths.now (Some place.now) frame.now.a frame.now.b v.now) }
+        (λ p. p
+        ≡ place_outside (verses_on voices.now)
+        (bare_laid frame.now.keys.now (slots_of_voices 0 frame.now.lengths.now frame.now.a frame.now.b voices.now))) }
 {
-    let mut pen = MarkPen::new(alloc);
-    put_own_part(&mut pen, frame, Some(place), v)?;
-    Ok(pen.marks)
+    let mut between = Row::new(alloc);
+    put_bridges(&mut between, frame.keys, bridges)?;
+    let heights = heights_on(parts, between.as_slice());
+    Ok(place_over(verses_on(voices), heights))
 }
 
-/// Returns what each voice of a staff has in columns, after the verses and the texts of the voices before it.
-fn written_parts(
+/// Returns a place in each column of a system.
+fn places_in(alloc: Global, keys: &[ColumnKey], place: TextPlace) -> Result<Row<TextPlace>, Memory>
+    ensures { IfOk result (λ r. r ≡ map (λ k. place) keys.now) }
+{
+    let mut places = Row::with_room(alloc, keys.len())?;
+    for key in keys {
+        places.push(place)?;
+    }
+    Ok(places)
+}
+
+/// Returns the parts of voices, and after that of each voice its words: the first of each column at this place.
+fn with_words(
     alloc: Global,
     frame: &SystemFrame<'_>,
-    room: StaffRoom,
+    place: TextPlace,
+    parts: Row<Row<Laid>>,
     voices: &[DrawnVoice<'_>],
 ) -> Result<Row<Row<Laid>>, Memory>
     requires each { All (λ v. length v.measures ≡ length frame.now.lengths.now) voices.now }
     requires good { All (λ v. AreGoodMeasures v.measures) voices.now }
     requires verses { verses_on voices.now ≤ 128 }
     ensures { IfOk result
-        (λ r. r ≡ written_parts frame.now.keys.now frame.now.lengths.now room frame.now.a frame.now.b 0 [] voices.now) }
+        (λ r. r
+        ≡ with_words frame.now.keys.now (map (λ k. place) frame.now.keys.now) parts
+        (slots_of_voices 0 frame.now.lengths.now frame.now.a frame.now.b voices.now)) }
 {
-    let mut parts = Row::new(alloc);
-    let mut place = WordRoom {
-        room,
-        first: 0,
-        before: Row::new(alloc),
-    };
-    let mut rest = voices;
-    while let [v, following @ ..] = rest {
-        let part = written_part(alloc, frame, &place, v)?;
-        let follows = !following.is_empty();
-        let columns = frame.keys.len();
-        place = word_room_after(alloc, columns, place, v.verses, part.as_slice(), follows)?;
-        parts.push(part)?;
+    let mut all = Row::with_room(alloc, voices.len().saturating_mul(2))?;
+    let mut places = places_in(alloc, frame.keys, place)?;
+    let (mut rest, mut first) = (voices, 0);
+    for part in parts.items {
+        let [v, following @ ..] = rest else {
+            return Ok(all);
+        };
+        let words = words_of(alloc, frame, &mut places, first, v)?;
+        all.push(part)?;
+        all.push(words)?;
+        first += v.verses;
         rest = following;
     }
-    Ok(parts)
+    Ok(all)
+}
+
+/// Returns what voices have in the columns of a system; `bridges` is what they have between columns.
+fn columns_on(
+    alloc: Global,
+    frame: &SystemFrame<'_>,
+    voices: &[DrawnVoice<'_>],
+    bridges: &[Bridge],
+) -> Result<Row<Laid>, Memory>
+    requires each { All (λ v. length v.measures ≡ length frame.now.lengths.now) voices.now }
+    requires good { All (λ v. AreGoodMeasures v.measures) voices.now }
+    requires verses { verses_on voices.now ≤ 128 }
+    requires ordered { All (IsOrdered frame.now.keys.now frame.now.lengths.now frame.now.a frame.now.b) voices.now }
+    requires bridges { bridges.now ≡ flat_map (bridges_of frame.now.lengths.now frame.now.a frame.now.b) voices.now }
+    ensures { IfOk result
+        (λ r. r
+        ≡ staff_columns frame.now.keys.now (verses_on voices.now)
+        (slots_of_voices 0 frame.now.lengths.now frame.now.a frame.now.b voices.now)) }
+{
+    let parts = bare_parts(alloc, frame, voices)?;
+    if is_silent_staff(frame, voices) {
+        return by_columns(alloc, frame.keys.len(), parts);
+    }
+    let place = place_on(alloc, frame, voices, parts.as_slice(), bridges)?;
+    let parts = with_words(alloc, frame, place, parts, voices)?;
+    by_columns(alloc, frame.keys.len(), parts)
 }
 
 /// Returns the marks of the staff of these voices.
-#[tactic(auto, unfolding(crate::specs::Staff::staff_marks))]
 fn staff_marks(
     alloc: Global,
     frame: &SystemFrame<'_>,
@@ -245,15 +255,14 @@ fn staff_marks(
     requires each { All (λ v. length v.measures ≡ length frame.now.lengths.now) voices.now }
     requires good { All (λ v. AreGoodMeasures v.measures) voices.now }
     requires verses { verses_on voices.now ≤ 128 }
+    requires ordered { All (IsOrdered frame.now.keys.now frame.now.lengths.now frame.now.a frame.now.b) voices.now }
     ensures staff { IfOk result
-        (λ r. r ≡ staff_marks frame.now.keys.now frame.now.lengths.now frame.now.a frame.now.b voices.now) }
+        (λ r. r ≡ slotted_staff frame.now.keys.now frame.now.lengths.now frame.now.a frame.now.b voices.now) }
     ensures lines { IfOk result CoversLines }
 {
     let bridges = bridges_on(alloc, frame, voices)?;
     let bridges = bridges.as_slice();
-    let room = room_on(alloc, frame, voices, bridges)?;
-    let parts = written_parts(alloc, frame, room, voices)?;
-    let mut marks = by_columns(alloc, frame.keys.len(), parts)?;
+    let mut marks = columns_on(alloc, frame, voices, bridges)?;
     put_bridges(&mut marks, frame.keys, bridges)?;
     Ok(staff_over(marks))
 }
@@ -282,9 +291,10 @@ pub(crate) fn staves(
     requires each { All (λ v. length v.measures ≡ length frame.now.lengths.now) voices.now }
     requires good { All (λ v. AreGoodMeasures v.measures) voices.now }
     requires verses { verses_on voices.now ≤ 128 }
+    requires ordered { All (IsOrdered frame.now.keys.now frame.now.lengths.now frame.now.a frame.now.b) voices.now }
     ensures staves { IfOk result (λ r.
         r
-        ≡ map (staff_marks frame.now.keys.now frame.now.lengths.now frame.now.a frame.now.b)
+        ≡ map (slotted_staff frame.now.keys.now frame.now.lengths.now frame.now.a frame.now.b)
         (grouped is_drawn_lower voices.now)) }
     ensures lines { IfOk result (All CoversLines) }
 {

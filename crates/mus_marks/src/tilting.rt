@@ -13,8 +13,9 @@ ghost use Rattle.mus_laid.specs.Shapes.{HaveSameShapes};
 ghost use Rattle.mus_marks.specs.Staff.{CoversLines, verses_on};
 ghost use Rattle.mus_marks.specs.System.{IsCall, is_drawn_lower};
 ghost use Rattle.mus_marks.specs.Tilt.{CanTilt, AllCanTilt, ends_over, sloped_over, over, event_ended, end_left};
-ghost use Rattle.mus_marks.specs.Tilt.{measure_ended, measure_left, voice_ended, voice_left, tilted_staff};
-ghost use Rattle.mus_marks.specs.Tilt.{AreAbscissas, IsTilted};
+ghost use Rattle.mus_marks.specs.Tilt.{measure_ended, measure_left, voice_ended, voice_left, voice_tilted};
+ghost use Rattle.mus_slots.specs.Words.{IsOrdered};
+ghost use Rattle.mus_marks.specs.Tilt.{AreAbscissas, IsTilted, tilted_slots};
 
 use crate::staves::staves;
 use mus_drawn::{DrawnEvent, DrawnMeasure, DrawnVoice};
@@ -190,10 +191,14 @@ fn tilted_staves(
     requires slopes { All
         (λ v. AllCanTilt frame.now.keys.now at.now frame.now.a (slice_range v.measures frame.now.a frame.now.b))
         voices.old }
+    requires ordered { All
+        (λ v. IsOrdered frame.now.keys.now frame.now.lengths.now frame.now.a frame.now.b
+        (voice_tilted frame.now.keys.now at.now frame.now.a frame.now.b v))
+        voices.old }
     ensures kept { voices.new ≡ voices.old }
     ensures staves { IfOk result (λ r.
         r
-        ≡ map (tilted_staff frame.now.keys.now frame.now.lengths.now at.now frame.now.a frame.now.b)
+        ≡ map (tilted_slots frame.now.keys.now frame.now.lengths.now at.now frame.now.a frame.now.b)
         (grouped is_drawn_lower voices.old)) }
     ensures lines { IfOk result (All CoversLines) }
 {

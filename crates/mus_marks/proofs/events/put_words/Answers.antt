@@ -7,5 +7,5 @@ pub returns-then-is_silent : goal.returns-then-is_silent
 returns-then-is_silent c =
     ap (λ marks. record c.args.pen.now { marks = marks }) (sym (append-nil c.args.pen.now.marks))
     ∙ ap (λ t. inked c.args.pen.now t)
-    (sym (words_silent (option_copied c.args.place) c.args.pen.now.rank c.args.flat.now
-    (sym c.is_silent.ensures ∙ c.if-is_silent.true)))
+    (sym (words_silent c.args.flat.now (sym c.is_silent.ensures ∙ c.if-is_silent.true) (option_copied c.args.place)
+    c.args.pen.now.rank))

@@ -1,7 +1,8 @@
 use Rattle.std.{proofs.Common.{◌≡◌, ◌++◌, ◌≤◌, length, map}, specs.List.All}
 use Rattle.mus_score.specs.Seats.{grouped}
 use Rattle.mus_drawn.specs.Good.{AreGoodMeasures}
-use Rattle.mus_marks.specs.Staff.{CoversLines, staff_marks, verses_on}
+use Rattle.mus_slots.specs.Words.{IsOrdered}
+use Rattle.mus_marks.specs.Staff.{CoversLines, slotted_staff, verses_on}
 use Rattle.mus_marks.specs.System.{is_drawn_lower}
 use Rattle.mus_marks.proofs.staves.staves.Given as goal
 
@@ -10,9 +11,10 @@ invariant-loop-rest l = record {
   each : All (λ v. length v.measures ≡ length l.frame.lengths.now) l.rest;
   good : All (λ v. AreGoodMeasures v.measures) l.rest;
   verses : verses_on l.rest ≤ 128;
+  ordered : All (IsOrdered l.frame.keys.now l.frame.lengths.now l.frame.a l.frame.b) l.rest;
   staves : l.staves
-      ++ map (staff_marks l.frame.keys.now l.frame.lengths.now l.frame.a l.frame.b) (grouped is_drawn_lower l.rest)
-      ≡ map (staff_marks l.frame.keys.now l.frame.lengths.now l.frame.a l.frame.b) (grouped is_drawn_lower l.voices);
+      ++ map (slotted_staff l.frame.keys.now l.frame.lengths.now l.frame.a l.frame.b) (grouped is_drawn_lower l.rest)
+      ≡ map (slotted_staff l.frame.keys.now l.frame.lengths.now l.frame.a l.frame.b) (grouped is_drawn_lower l.voices);
   lines : All CoversLines l.staves;
   shorter : length l.rest ≤ length l.voices;
 }

@@ -3,10 +3,12 @@ use Rattle.mus_score.specs.Seats.{grouped}
 use Rattle.mus_onsets.specs.Ranks.{AreRanked}
 use Rattle.mus_laid.specs.Boxes.{AreGoodMarks}
 use Rattle.mus_time.proofs.Counts.{lengths_count, voices_count}
-use Rattle.mus_marks.specs.Staff.{staff_marks, verses_on}
+use Rattle.mus_slots.specs.Words.{IsOrdered}
+use Rattle.mus_marks.specs.Staff.{slotted_staff, verses_on}
 use Rattle.mus_marks.specs.System.{drawn_staves, is_drawn_lower}
 use Rattle.mus_marks.proofs.Fitting.{few_verses, staves_fit}
 use Rattle.mus_marks.proofs.GoodMarks.{staves_good}
+use Rattle.mus_marks.proofs.SystemSlots.{marks_are_slots, voices_ordered}
 use Rattle.mus_marks.proofs.systems.marks_of.Goals as goal
 
 pub invariant_of-frame : goal.invariant_of-frame
@@ -32,13 +34,16 @@ returns-clause-call c = record {
   staves =
       c.in_ok-staves.ensures.staves
       ∙ ap (λ ks.
-      map (staff_marks ks c.as_slice-2.result.now c.args.a c.args.b) (grouped is_drawn_lower c.args.voices.now))
+      map (slotted_staff ks c.as_slice-2.result.now c.args.a c.args.b) (grouped is_drawn_lower c.args.voices.now))
       c.as_slice.ensures
-      ∙ ap (λ ls. map (staff_marks c.in_ok-keys.keys ls c.args.a c.args.b) (grouped is_drawn_lower c.args.voices.now))
+      ∙ ap (λ ls. map (slotted_staff c.in_ok-keys.keys ls c.args.a c.args.b) (grouped is_drawn_lower c.args.voices.now))
       c.as_slice-2.ensures
       ∙ ap (λ vs.
-      map (staff_marks c.in_ok-keys.keys c.args.t.now.lengths c.args.a c.args.b) (grouped is_drawn_lower vs))
-      c.requires.voices;
+      map (slotted_staff c.in_ok-keys.keys c.args.t.now.lengths c.args.a c.args.b) (grouped is_drawn_lower vs))
+      c.requires.voices
+      ∙ sym
+      (marks_are_slots c.args.s.now c.args.t.now c.args.a c.args.b c.in_ok-keys.keys c.requires.times c.requires.good
+      c.requires.order c.requires.within c.in_ok-keys.ensures.keys);
 }
 
 pub returns-clause-good : goal.returns-clause-good
@@ -51,3 +56,12 @@ returns-clause-good c =
 pub staves-requires-clause-verses : goal.staves-requires-clause-verses
 staves-requires-clause-verses c =
     subst (λ vs. verses_on vs ≤ 128) (sym c.requires.voices) (few_verses c.args.s.now c.requires.good)
+
+pub staves-requires-clause-ordered : goal.staves-requires-clause-ordered
+staves-requires-clause-ordered c =
+    subst (λ ks. All (IsOrdered ks c.as_slice-2.result.now c.args.a c.args.b) c.args.voices.now)
+    (sym c.as_slice.ensures)
+    (subst (λ ls. All (IsOrdered c.in_ok-keys.keys ls c.args.a c.args.b) c.args.voices.now) (sym c.as_slice-2.ensures)
+    (subst (All (IsOrdered c.in_ok-keys.keys c.args.t.now.lengths c.args.a c.args.b)) (sym c.requires.voices)
+    (voices_ordered c.args.s.now c.args.t.now c.args.a c.args.b c.in_ok-keys.keys c.requires.times c.requires.good
+    c.requires.order c.requires.within c.in_ok-keys.ensures.keys)))

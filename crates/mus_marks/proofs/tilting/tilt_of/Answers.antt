@@ -7,10 +7,12 @@ use Rattle.mus_time.proofs.Counts.{lengths_count, voices_count}
 use Rattle.mus_time.proofs.Few.{few_keys}
 use Rattle.mus_marks.specs.Staff.{verses_on}
 use Rattle.mus_marks.specs.System.{is_drawn_lower}
-use Rattle.mus_marks.specs.Tilt.{AllCanTilt, tilted_staff}
+use Rattle.mus_slots.specs.Words.{IsOrdered}
+use Rattle.mus_marks.specs.Tilt.{AllCanTilt, tilted_slots, voice_tilted}
 use Rattle.mus_marks.proofs.Fitting.{few_verses}
 use Rattle.mus_marks.proofs.Sloping.{voices_can}
 use Rattle.mus_marks.proofs.Alike.{tilted_alike, tilted_good}
+use Rattle.mus_marks.proofs.SystemSlots.{tilted_marks_are_slots, tilted_ordered}
 use Rattle.mus_marks.proofs.tilting.tilt_of.Goals as goal
 
 pub invariant_of-frame : goal.invariant_of-frame
@@ -62,10 +64,13 @@ returns-clause-tilted c =
       keys = c.requires.keys;
       staves =
           c.in_ok-staves.ensures.staves
-          ∙ ap (λ ks. map (tilted_staff ks c.as_slice-2.result.now at a b) (grouped is_drawn_lower c.args.voices.now))
+          ∙ ap (λ ks. map (tilted_slots ks c.as_slice-2.result.now at a b) (grouped is_drawn_lower c.args.voices.now))
           c.as_slice.ensures
-          ∙ ap (λ ls. map (tilted_staff keys ls at a b) (grouped is_drawn_lower c.args.voices.now)) c.as_slice-2.ensures
-          ∙ ap (λ vs. map (tilted_staff keys lengths at a b) (grouped is_drawn_lower vs)) c.requires.voices;
+          ∙ ap (λ ls. map (tilted_slots keys ls at a b) (grouped is_drawn_lower c.args.voices.now)) c.as_slice-2.ensures
+          ∙ ap (λ vs. map (tilted_slots keys lengths at a b) (grouped is_drawn_lower vs)) c.requires.voices
+          ∙ sym
+          (tilted_marks_are_slots c.args.s.now c.args.t.now a b keys c.requires.times c.requires.good c.requires.order
+          c.requires.within c.requires.keys at);
     }
 
 pub returns-clause-alike : goal.returns-clause-alike
@@ -81,3 +86,17 @@ returns-clause-places c =
 pub returns-clause-good : goal.returns-clause-good
 returns-clause-good c =
     tilted_good c.args.s.now c.args.t.now c.args.a c.args.b c.args.at.now _ (returns-clause-tilted c) c.requires.good
+
+pub tilted_staves-requires-clause-ordered : goal.tilted_staves-requires-clause-ordered
+tilted_staves-requires-clause-ordered c =
+    let at = c.args.at.now in
+    let a = c.args.a in
+    let b = c.args.b in
+    subst (λ ks. All (λ v. IsOrdered ks c.as_slice-2.result.now a b (voice_tilted ks at a b v)) c.args.voices.now)
+    (sym c.as_slice.ensures)
+    (subst (λ ls. All (λ v. IsOrdered c.args.keys ls a b (voice_tilted c.args.keys at a b v)) c.args.voices.now)
+    (sym c.as_slice-2.ensures)
+    (subst (All (λ v. IsOrdered c.args.keys c.args.t.now.lengths a b (voice_tilted c.args.keys at a b v)))
+    (sym c.requires.voices)
+    (tilted_ordered c.args.s.now c.args.t.now a b c.args.keys c.requires.times c.requires.good c.requires.order
+    c.requires.within c.requires.keys at)))
