@@ -1,5 +1,5 @@
 -- The document of outcomes that is written at once, and how long it is.
-use Rattle.std.proofs.Common.{◌≡◌, ◌∙◌, ap, sym, subst, ℕ, Bool, List, [], ◌++◌, length, Option}
+use Rattle.std.proofs.Common.{◌≡◌, ◌∙◌, ap, sym, subst, arith, ℕ, ◌<◌, ◌^◌, Bool, List, [], ◌++◌, length, Option}
 use Rattle.std.proofs.lemmas.List.{append-nil, append_assoc}
 use Rattle.std.specs.Prelude.{All}
 use Rattle.abc_fields.specs.declared.paper.Paper.{Paper}
@@ -8,6 +8,7 @@ use Rattle.ps_text.specs.Document.{document}
 use Rattle.ps_text.specs.Prolog.{prolog}
 use Rattle.set_book.specs.declared.outcome.Outcome.{Outcome}
 use Rattle.set_pages.specs.Builder.{AddsOutcomes, begun_text}
+use Rattle.set_pages.specs.Drawings.{all_blocks}
 use Rattle.set_pages.specs.Sheet.{IsPagePlan, IsSetUnder, paper_frame, sheet_of}
 use Rattle.set_pages.specs.declared.builder.PageBuilder.{PageBuilder}
 use Rattle.set_pages.specs.declared.plan.PagePlan.{PagePlan}
@@ -20,13 +21,14 @@ use Rattle.abcps.proofs.Sent.{document_parts, stream, took_after}
 
 -- all outcomes of a plan can be added at once
 pub can_add_all : (even : Bool) (plan : PagePlan) (paper : Paper) (outcomes : List Outcome) (r : BookProgress)
-    → IsGoodPaper paper → All (IsSetUnder paper) outcomes → IsPagePlan even paper outcomes plan → IsBegun r
-    → CanAdd plan paper outcomes r
-can_add_all even plan paper outcomes r good set planned begun =
+    → IsGoodPaper paper → All (IsSetUnder paper) outcomes → length (all_blocks outcomes) < 2 ^ 32
+    → IsPagePlan even paper outcomes plan → IsBegun r → CanAdd plan paper outcomes r
+can_add_all even plan paper outcomes r good set few planned begun =
     let running = begun plan paper (plan_rises even paper outcomes plan planned) in
     record {
       good = good;
       set = set;
+      few = omega (arith, few, running.pressed.put);
       room =
           room_by even paper [] outcomes [] plan r.press running.pressed.put
           (subst (λ all. IsPagePlan even paper all plan) (sym (append-nil outcomes)) planned);

@@ -1,6 +1,6 @@
 -- A book as it is set, built and written, one batch of its tunes after another.
-use Rattle.std.specs.Prelude.{◌≡◌, ◌⊎◌, ℕ, List, [], ◌++◌, All, Bool, true, false, if◌then◌else◌, flat_map, Result, Ok}
-use Rattle.std.specs.Prelude.{Err}
+use Rattle.std.specs.Prelude.{◌≡◌, ◌⊎◌, ◌<◌, ℕ, ◌+◌, ◌^◌, List, [], ◌++◌, All, Bool, true, false, if◌then◌else◌}
+use Rattle.std.specs.Prelude.{flat_map, length, Result, Ok, Err}
 use Rattle.std.specs.List.{AllZip}
 use Rattle.abc_lines.specs.declared.book.TuneText.{TuneText}
 use Rattle.abc_fields.specs.declared.paper.Paper.{Paper}
@@ -56,10 +56,12 @@ pub record IsRunning (plan : PagePlan) (paper : Paper) (outcomes : List Outcome)
 abbrev pub IsBegun : BookProgress → Type 0
 IsBegun r = (plan : PagePlan) (paper : Paper) → RisesBy plan → IsRunning plan paper [] r
 
--- outcomes can be added after those that were taken
+-- outcomes can be added after those that were taken: the plan has room for their blocks, which are fewer than 2^32
+-- with those before them
 pub record CanAdd (plan : PagePlan) (paper : Paper) (outcomes : List Outcome) (r : BookProgress) : Type 0 where
   pub good : IsGoodPaper paper
   pub set : All (IsSetUnder paper) outcomes
+  pub few : r.press.put + length (all_blocks outcomes) < 2 ^ 32
   pub room : HasRoom plan (body_height paper) r.press (all_blocks outcomes)
   pub before : List Outcome
   pub running : IsRunning plan paper before r

@@ -7,7 +7,7 @@ use Rattle.std.specs.Prelude.{◌==◌, ◌&&◌, ◌||◌, nat_le, nat_lt, Opti
 use Rattle.lay_pages.specs.Distances.{block_gap}
 use Rattle.lay_pages.specs.Filling.{AreGoodBlocks, CanFollow, IsLoose, down_after, first_place, height_number}
 use Rattle.lay_pages.specs.Filling.{with_kept, group_height, under, place_by, next_place, spot_at, spots_from}
-use Rattle.lay_pages.specs.Filling.{standing_from, tall_by, tall_from, AreWithin}
+use Rattle.lay_pages.specs.Filling.{pages_after, standing_from, tall_by, tall_from, AreWithin}
 use Rattle.lay_pages.specs.declared.filling.Block.{Block}
 use Rattle.lay_pages.specs.declared.filling.BlockSpot.{BlockSpot}
 use Rattle.lay_pages.specs.declared.filling.Spot.{Spot}
@@ -154,6 +154,12 @@ first_room high (Some last) blocks can none =
     let low = (ready_first high blocks none).fits in
     loose_room last.block.keep last.place.page (under last.place last.block) (group_height blocks) high can.keep
     (omega (arith, low))
+
+-- the first block is on the last page that is begun, or begins the next one
+pub first_page : (high : ℕ) (last_block : Option PlacedBlock) (blocks : List Block)
+    → (first_place high last_block blocks).page ≤ pages_after last_block
+first_page high None blocks = omega arith
+first_page high (Some last) blocks = omega (arith, page_more high last.place last.block blocks)
 
 pub after_within : (high : ℕ) (last_block : Option PlacedBlock) (blocks : List Block) (place : BlockSpot)
     (spots : List Spot)

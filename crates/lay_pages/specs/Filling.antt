@@ -78,9 +78,10 @@ IsLoose [] = ⊤
 IsLoose (block ∷ []) = block.keep ≡ false
 IsLoose (block ∷ next ∷ more) = IsLoose (next ∷ more)
 
-abbrev pub page_after : Option PlacedBlock → ℕ
-page_after None = 0
-page_after (Some last) = last.place.page
+-- how many pages are begun up to the last block
+abbrev pub pages_after : Option PlacedBlock → ℕ
+pages_after None = 0
+pages_after (Some last) = suc last.place.page
 
 abbrev pub down_after : Option PlacedBlock → ℕ
 down_after None = 0

@@ -1,7 +1,7 @@
 ghost use Rattle.std.specs.Prelude.{◌≡◌, ◌<◌, ◌≤◌, ◌+◌, ◌-◌, ◌*◌, ◌^◌, pos, ◌≤ℤ◌, nat_le, nat_lt, length, IfOk, IfErr};
 ghost use Rattle.std.specs.Prelude.{None};
 ghost use Rattle.lay_pages.specs.Filling.{AreGoodBlocks, CanFollow, IsLoose, last_block_after, down_after, first_place};
-ghost use Rattle.lay_pages.specs.Filling.{height_number, group_height, next_place, page_after, spot_at, spots_after};
+ghost use Rattle.lay_pages.specs.Filling.{height_number, group_height, next_place, pages_after, spot_at, spots_after};
 ghost use Rattle.lay_pages.specs.Filling.{spots_from, spots_of, standing_from, first_tall, AreWithin, AreFilled};
 ghost use Rattle.lay_pages.specs.Filling.{IsPageError};
 ghost use Rattle.lay_pages.specs.declared.filling.PageError.TheVariants as errors;
@@ -189,7 +189,7 @@ fn first_place(high: u32, last_block: Option<PlacedBlock>, blocks: &[Block]) -> 
     requires few { length blocks.now < 2 ^ 32 }
     requires good { AreGoodBlocks blocks.now }
     requires last_block { CanFollow last_block }
-    requires page { page_after last_block < 2 ^ 32 - 1 }
+    requires page { pages_after last_block < 2 ^ 32 }
     ensures { result ≡ first_place high last_block blocks.now }
 {
     match last_block {
@@ -212,6 +212,7 @@ fn spots_from(
     ensures spots { IfOk result (λ f. f.spots ≡ spots_from high first blocks.now) }
     ensures last_block { IfOk result (λ f. f.last_block ≡ standing_from high first blocks.now) }
     ensures down { IfOk result (λ f. down_after f.last_block ≤ high) }
+    ensures pages { IfOk result (λ f. pages_after f.last_block ≤ first.page + length blocks.now) }
 {
     let mut spots = Row::new(alloc);
     let mut place = first;
@@ -234,22 +235,12 @@ fn spots_from(
     })
 }
 
-/// Returns the number of pages before that of the last block.
-fn page_after(last_block: Option<PlacedBlock>) -> u32
-    ensures { result ≡ page_after last_block }
-{
-    match last_block {
-        Some(last) => last.place.page,
-        None => 0,
-    }
-}
-
 /// Returns the spots of blocks that come after others, as `fill` places them. `last_block` is the last
 /// of the others and its spot; the result has the last block of all. So blocks may be placed a list
 /// at a time, if each list ends with a block that isn't tied to the next one.
 ///
-/// No group of the blocks is higher than a page. `Memory` is also returned if there are 2^32 pages
-/// or more.
+/// No group of the blocks is higher than a page. There are fewer than 2^32 pages, even if each block
+/// begins one.
 pub fn fill_after(
     alloc: Global,
     high: u32,
@@ -259,19 +250,18 @@ pub fn fill_after(
     requires good { AreGoodBlocks blocks.now }
     requires fits { first_tall high blocks.now ≡ None }
     requires last_block { CanFollow last_block }
+    requires few { pages_after last_block + length blocks.now < 2 ^ 32 }
     ensures spots { IfOk result (λ f. f.spots ≡ spots_after high last_block blocks.now) }
     ensures last_block { IfOk result (λ f. f.last_block ≡ last_block_after high last_block blocks.now) }
     ensures within { IfOk result (λ f. AreWithin high blocks.now f.spots) }
     ensures follows { IfOk result (λ f. IsLoose blocks.now → CanFollow f.last_block) }
+    ensures pages { IfOk result (λ f. pages_after f.last_block ≤ pages_after last_block + length blocks.now) }
 {
     if blocks.is_empty() {
         return Ok(Placement {
             spots: Row::new(alloc),
             last_block,
         });
-    }
-    if u64::from(page_after(last_block)) + blocks.len() as u64 >= u64::from(u32::MAX) {
-        return Err(Memory);
     }
     let place = first_place(high, last_block, blocks);
     let filled = spots_from(alloc, high, place, blocks)?;

@@ -7,7 +7,7 @@ use Rattle.abc_fields.specs.{declared.paper.Paper.Paper, Papers.{body_height, bo
 use Rattle.lay_pages.specs.declared.filling.Block.{Block}
 use Rattle.lay_pages.specs.declared.filling.Spot.{Spot}
 use Rattle.lay_pages.specs.declared.filling.PlacedBlock.{PlacedBlock}
-use Rattle.lay_pages.specs.Filling.{AreGoodBlocks, AreWithin, CanFollow, last_block_after, spots_after}
+use Rattle.lay_pages.specs.Filling.{AreGoodBlocks, AreWithin, CanFollow, last_block_after, pages_after, spots_after}
 use Rattle.set_pages.specs.Sheet.{AreStanding, IsSetUnder, all_spots, sheet_of}
 use Rattle.set_pages.specs.declared.plan.PagePlan.{PagePlan}
 use Rattle.set_pages.specs.declared.builder.PageBuilder.{PageBuilder}
@@ -50,9 +50,10 @@ abbrev pub RisesBy : PagePlan → Type 0
 RisesBy PagePlan.Filled = ⊤
 RisesBy (PagePlan.At spots) = AreRising spots
 
--- others may be added after the last block
-abbrev pub CanGoOn : PageBuilder → Type 0
-CanGoOn p = CanFollow p.last_block
+-- others may be added after the last block, and each page was begun by a block
+pub record CanGoOn (p : PageBuilder) : Type 0 where
+  pub follows : CanFollow p.last_block
+  pub pages : pages_after p.last_block ≤ p.put
 
 -- the text of the pages of these outcomes, up to the end of the last
 unfoldable pub begun_text : PagePlan → Paper → List Outcome → List ℕ

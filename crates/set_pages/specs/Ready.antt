@@ -1,6 +1,6 @@
 -- The conditions on a block before it is drawn, and the properties of a drawn one.
-use Rattle.std.specs.Prelude.{◌≡◌, ◌⊎◌, ⊤, ℕ, suc, ◌≤◌, ℤ, pos, ◌-ℤ◌, ◌≤ℤ◌, List, [], ◌∷◌, All, IfSome, length, Result}
-use Rattle.std.specs.Prelude.{Ok, Err}
+use Rattle.std.specs.Prelude.{◌≡◌, ◌⊎◌, ⊤, ℕ, suc, ◌+◌, ◌<◌, ◌≤◌, ◌^◌, ℤ, pos, ◌-ℤ◌, ◌≤ℤ◌, List, [], ◌∷◌, All}
+use Rattle.std.specs.Prelude.{IfSome, length, Result, Ok, Err}
 use Rattle.abc_lines.specs.declared.fault.Fault.{Fault}
 use Rattle.lay_pages.specs.declared.filling.Spot.{Spot}
 use Rattle.lay_pages.specs.declared.filling.Block.{Block}
@@ -72,6 +72,13 @@ AreRisingFrom page (s ∷ spots) = ((s.page ≡ page) ⊎ (s.page ≡ suc page))
 abbrev pub AreRising : List Spot → Type 0
 AreRising [] = ⊤
 AreRising (s ∷ spots) = (s.page ≡ 0) × AreRisingFrom s.page spots
+
+-- the page has a number below 2^32, counted from 1
+abbrev pub IsNumbered : Spot → Type 0
+IsNumbered s = s.page + 1 < 2 ^ 32
+
+abbrev pub AreNumbered : List Spot → Type 0
+AreNumbered spots = All IsNumbered spots
 
 -- what a block draws may be placed on a page
 abbrev pub IsDrawnInRange : ℕ → Drawing → Spot → Type 0

@@ -1,13 +1,14 @@
-ghost use Rattle.std.specs.{Prelude.{◌≡◌, ◌<◌, ◌^◌, ◌++◌, [], List, None, All, IfOk, OnOk}, List.AllZip};
+ghost use Rattle.std.specs.Prelude.{◌≡◌, ◌<◌, ◌≤◌, ◌+◌, ◌^◌, ◌++◌, [], List, None, All, IfOk, OnOk, length};
+ghost use Rattle.std.specs.List.{AllZip};
 ghost use Rattle.abc_fields.specs.declared.paper.Paper as paper;
 ghost use Rattle.abc_fields.specs.Papers.{IsGoodPaper, body_height, body_width};
 ghost use Rattle.set_book.specs.declared.outcome.Outcome as outcome;
-ghost use Rattle.lay_pages.specs.Filling.{AreGoodBlocks, AreWithin, CanFollow, IsLoose, first_tall};
+ghost use Rattle.lay_pages.specs.Filling.{AreGoodBlocks, AreWithin, CanFollow, IsLoose, first_tall, pages_after};
 ghost use Rattle.set_pages.specs.Drawings.{all_blocks, all_drawings};
 ghost use Rattle.set_pages.specs.Flow.{begun_after};
 ghost use Rattle.set_pages.specs.Builder.{AreOutcomesAt, CanDrawOutcome, HasRoom, CanGoOn, IsBuiltFrom, WillAdd};
 ghost use Rattle.set_pages.specs.Builder.{IsTextOfOutcome, RisesBy, next_last_block, next_spots, empty_builder};
-ghost use Rattle.set_pages.specs.Ready.{IsReady, IsWhole};
+ghost use Rattle.set_pages.specs.Ready.{AreNumbered, IsReady, IsWhole};
 ghost use Rattle.set_pages.specs.Sheet.{IsSetUnder};
 ghost use Rattle.set_pages.specs.declared.plan.PagePlan as plan;
 
@@ -62,12 +63,16 @@ fn place_blocks(
 ) -> Result<Placement, Memory>
     requires good { AreGoodBlocks blocks.now }
     requires fits { first_tall high blocks.now ≡ None }
-    requires last_block { CanFollow press.now.last_block }
+    requires open { CanGoOn press.now }
+    requires rises { RisesBy plan.now }
+    requires few { press.now.put + length blocks.now < 2 ^ 32 }
     requires room { HasRoom plan.now high press.now blocks.now }
     ensures spots { IfOk result (λ f. f.spots ≡ next_spots plan.now high press.now blocks.now) }
     ensures last_block { IfOk result (λ f. f.last_block ≡ next_last_block plan.now high press.now blocks.now) }
     ensures within { IfOk result (λ f. AreWithin high blocks.now f.spots) }
+    ensures numbered { IfOk result (λ f. AreNumbered f.spots) }
     ensures follows { IfOk result (λ f. IsLoose blocks.now → CanFollow f.last_block) }
+    ensures pages { IfOk result (λ f. pages_after f.last_block ≤ press.now.put + length blocks.now) }
 {
     match plan {
         PagePlan::Filled => fill_after(alloc, high, press.last_block, blocks),
@@ -83,18 +88,16 @@ fn place_blocks(
 }
 
 /// Returns how many pages are begun once blocks are placed after this number of begun pages.
-#[tactic(auto, using(crate::proofs::Texts::last_begun, crate::proofs::Texts::none_begun))]
-fn begun_after(begun: u32, spots: &[Spot]) -> Result<u32, Memory>
-    ensures value { IfOk result (λ n. n ≡ begun_after begun spots.now) }
-    ensures few { IfOk result (λ n. n < 2 ^ 32) }
+#[tactic(auto, using(crate::proofs::Texts::last_page))]
+fn begun_after(begun: u32, spots: &[Spot]) -> u32
+    requires { AreNumbered spots.now }
+    ensures value { result ≡ begun_after begun spots.now }
+    ensures few { result < 2 ^ 32 }
 {
-    let Some(last) = spots.last() else {
-        return Ok(begun);
-    };
-    if last.page == u32::MAX {
-        return Err(Memory);
+    match spots.last() {
+        Some(last) => last.page + 1,
+        None => begun,
     }
-    Ok(last.page + 1)
 }
 
 /// Returns outcomes, each with the spots of its own blocks.
@@ -106,6 +109,7 @@ fn place_outcomes(
 ) -> Result<Row<PlacedOutcome>, Memory>
     requires whole { All IsWhole outcomes }
     requires ready { AllZip IsReady (all_drawings outcomes) spots.now }
+    requires numbered { AreNumbered spots.now }
     ensures { IfOk result (AreOutcomesAt begun outcomes spots.now) }
 {
     let mut stood = Row::with_room(alloc, outcomes.len())?;
@@ -119,7 +123,7 @@ fn place_outcomes(
             outcome,
             spots,
         })?;
-        begun = begun_after(begun, here)?;
+        begun = begun_after(begun, here);
         rest = more;
     }
     Ok(stood)
@@ -170,9 +174,7 @@ impl Work<PlacedOutcome, Text> for OutcomeWriter {
 /// Places outcomes after those that were added, and returns them with the places of their blocks. `OutcomeWriter`
 /// makes from these the text that they add to the document. The blocks of the tunes without fault are placed on pages
 /// by the plan, in order. The tune's ordinal comes before the first block of a tune; if a block begins a page, the
-/// page before it ends.
-///
-/// Errors: `Memory` if memory runs out, or if there are 2^32 pages or more.
+/// page before it ends. There are fewer than 2^32 blocks, so the pages can be counted.
 pub fn add_outcomes(
     alloc: Global,
     paper: &Paper,
@@ -182,6 +184,8 @@ pub fn add_outcomes(
 ) -> Result<Row<PlacedOutcome>, Memory>
     requires paper { IsGoodPaper paper.now }
     requires outcomes { All (IsSetUnder paper.now) outcomes }
+    requires rises { RisesBy plan.now }
+    requires few { press.old.put + length (all_blocks outcomes) < 2 ^ 32 }
     requires room { HasRoom plan.now (body_height paper.now) press.old (all_blocks outcomes) }
     requires open { CanGoOn press.old }
     ensures ready { IfOk result (λ placed. All (CanDrawOutcome (body_width paper.now)) placed) }
@@ -194,13 +198,10 @@ pub fn add_outcomes(
     let (_, high) = body_of(paper);
     let blocks = all_blocks(alloc, outcomes.as_slice())?;
     let filled = place_blocks(alloc, high, plan, press, blocks.as_slice())?;
-    let Some(put) = press.put.checked_add(blocks.len()) else {
-        return Err(Memory);
-    };
     let spots = filled.spots.as_slice();
     let placed = place_outcomes(alloc, press.begun, outcomes, spots)?;
-    press.begun = begun_after(press.begun, spots)?;
+    press.begun = begun_after(press.begun, spots);
     press.last_block = filled.last_block;
-    press.put = put;
+    press.put += blocks.len();
     Ok(placed)
 }

@@ -1,4 +1,4 @@
-ghost use Rattle.std.specs.Prelude.{◌≡◌, IfOk, List, true};
+ghost use Rattle.std.specs.Prelude.{◌≡◌, ◌<◌, ◌^◌, IfOk, List, length, true};
 ghost use Rattle.abc_fields.specs.Papers.{IsGoodPaper};
 ghost use Rattle.set_book.specs.declared.outcome.Outcome as outcome;
 ghost use Rattle.set_pages.specs.{Drawings.all_blocks, Builder.AreBlocksOn, Sheet.IsPagePlan};
@@ -18,18 +18,14 @@ pub enum PagePlan {
 
 /// Returns the plan of a book with even pages, from the blocks of all its tunes: their groups are divided into pages
 /// so that no other division into pages that fit costs less.
-///
-/// Errors: `Memory` if memory runs out, or if there are 2^32 blocks or more.
 pub fn even_plan(alloc: Global, paper: &Paper, blocks: &[Block]) -> Result<PagePlan, Memory>
     requires paper { IsGoodPaper paper.now }
+    requires few { length blocks.now < 2 ^ 32 }
     requires blocks { AreBlocksOn paper.now blocks.now }
     ensures { IfOk result (λ plan.
         (outcomes : List outcome.Outcome)
         → blocks.now ≡ all_blocks outcomes → IsPagePlan true paper.now outcomes plan) }
 {
-    if blocks.len() > u32::MAX as usize {
-        return Err(Memory);
-    }
     let (_, high) = body_of(paper);
     match fill_even(alloc, blocks, high) {
         Ok(spots) => Ok(PagePlan::At(spots)),

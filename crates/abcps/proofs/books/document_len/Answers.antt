@@ -1,21 +1,26 @@
 use denote.Exit.{no}
 use denote.Param.Send.{param_send, arg_send}
-use Rattle.std.proofs.Common.{◌≡◌, ◌∙◌, ◌++◌, [], Some, ap, ap₂, length, subst, sym}
+use Rattle.std.proofs.Common.{◌≡◌, ◌∙◌, ◌<◌, ◌^◌, ◌++◌, [], Some, ap, ap₂, length, subst, sym}
 use Rattle.std.specs.List.{AllZip}
 use Rattle.std.specs.Prelude.{All, flat_map}
 use Rattle.ps_text.specs.Document.{document}
 use Rattle.set_pages.proofs.Sent.{placed_send}
 use Rattle.set_pages.proofs.Whole.{plan_rises}
 use Rattle.set_pages.specs.Builder.{CanDrawOutcome, IsTextOfOutcome}
+use Rattle.set_pages.specs.Drawings.{all_blocks}
 use Rattle.set_pages.specs.Sheet.{IsPagePlan, sheet_of}
 use Rattle.abcps.proofs.Batches.{running_same}
 use Rattle.abcps.proofs.Counted.{can_add_all, document_written, pages_counted}
 use Rattle.abcps.proofs.books.document_len.Goals as goal
 
+pub plan_for-requires-clause-few : goal.plan_for-requires-clause-few
+plan_for-requires-clause-few g c =
+    subst (λ all. length (all_blocks all) < 2 ^ 32) (sym c.as_slice.ensures) c.requires.few
+
 pub place_outcomes-requires : goal.place_outcomes-requires
 place_outcomes-requires g c =
     can_add_all c.args.even c.in_ok-plan.plan c.args.paper.now c.args.outcomes c.in_ok-run.run' c.requires.paper
-    c.requires.set
+    c.requires.set c.requires.few
     (subst (λ all. IsPagePlan c.args.even c.args.paper.now all c.in_ok-plan.plan) c.as_slice.ensures
     c.in_ok-plan.ensures)
     c.in_ok-run.ensures.begun

@@ -1,7 +1,7 @@
-use Rattle.std.proofs.Common.{◌≡◌, ◌∙◌, [], ap, rules}
+use Rattle.std.proofs.Common.{◌≡◌, ◌∙◌, [], ap, arith, rules}
 use Rattle.set_lists.specs.Trials.{trial_text}
 use Rattle.set_tune.specs.Terms.{unmoved}
-use Rattle.abcps.specs.Called.{Called}
+use Rattle.abcps.specs.{Books.terms_in, Called.Called}
 use Rattle.abcps.specs.declared.status.Status.{Status}
 use Rattle.abcps.proofs.Answered.{answer_of}
 use Rattle.abcps.proofs.BookCalls.{set_under, tries}
@@ -12,6 +12,12 @@ pub trial_of-requires-clause-set : goal.trial_of-requires-clause-set
 trial_of-requires-clause-set g c κs within =
     set_under (unmoved c.args.flow) c.in-Ok.text c.in-Ok-set_text.field-0.paper c.in-Ok-set_text.field-0.outcomes
     c.in-Ok-set_text.ensures.paper c.in-Ok-set_text.ensures.set
+
+pub trial_of-requires-clause-few : goal.trial_of-requires-clause-few
+trial_of-requires-clause-few g c κs within =
+    let text = c.in-Ok.text in
+    c.few_blocks.ensures.book text (terms_in (unmoved c.args.flow) text) c.in-Ok-set_text.field-0.outcomes
+    (omega (arith, c.in-Ok.ensures.short)) c.in-Ok-set_text.ensures.set
 
 pub returns : goal.returns
 returns g c =

@@ -7,7 +7,7 @@ placing-init c = record {
   value = search rules;
   last_block = refl;
   good = c.requires.good;
-  page = c.requires.few;
+  page = omega arith;
   ready = record { fits = c.requires.room; number = 0; tied = false; none = c.requires.fits };
 }
 

@@ -1,4 +1,4 @@
-use Rattle.std.proofs.Common.{◌∙◌, ap, rules, subst}
+use Rattle.std.proofs.Common.{◌≡◌, ◌∙◌, ap, arith, length, rules, subst}
 use Rattle.lay_pages.specs.Filling.{AreGoodBlocks}
 use Rattle.set_pages.specs.Drawings.{all_blocks}
 use Rattle.set_pages.proofs.Joined.{all_loose, pressed_more}
@@ -42,11 +42,15 @@ returns-clause-adds c before built texts are =
     pressed_more c.args.plan.now c.args.paper.now before c.args.outcomes _ _ c.len.result c.in_ok-filled.filled.spots _
     built c.requires.outcomes
     (rw (high, blocks) at c.in_ok-filled.ensures.spots) (rw spots at (joined.0 ∙ parted.text _))
-    (rw spots at c.in_ok-press.ensures.value) c.in_ok-press.ensures.few
+    (rw spots at c.begun_after-press.ensures.value) c.begun_after-press.ensures.few
     (rw (high, blocks) at c.in_ok-filled.ensures.last_block) (search rules) (search rules)
     (rw spots at (parted.drawn _ joined.1)) (subst AreGoodBlocks value c.in_ok-blocks.ensures.good)
 
 pub returns-clause-open : goal.returns-clause-open
 returns-clause-open c =
     let blocks = c.as_slice-2.ensures ∙ c.in_ok-blocks.ensures.value ∙ ap all_blocks c.as_slice.ensures in
-    c.in_ok-filled.ensures.follows (rw blocks (all_loose c.args.outcomes))
+    let count : c.len.result ≡ length c.as_slice-2.result.now = search rules in
+    record {
+      follows = c.in_ok-filled.ensures.follows (rw blocks (all_loose c.args.outcomes));
+      pages = omega (arith, count, c.in_ok-filled.ensures.pages);
+    }
