@@ -71,7 +71,7 @@ pages_once one manner even text c d a b =
     (sym a.read.spells.spelled
     ∙ ap document a.whole
     ∙ by_plan (λ p os. document (sheet_of p (paper_in text) os)) even (paper_in text) a.outcomes b.outcomes a.plan
-    b.plan same a.parted b.parted
+    b.plan same a.divided b.divided
     ∙ ap document (sym b.whole) ∙ b.read.spells.spelled)
     (a.reported ∙ ap reports same ∙ sym b.reported)
     (a.status ∙ ap status_of same ∙ sym b.status)
@@ -95,7 +95,7 @@ trial_once one tunes manner even c d a b =
     quiet_called c d
     (a.page
     ∙ by_plan (λ p os. trial_text (trial_of tunes os (sheet_of p paper os))) even paper a.outcomes b.outcomes a.plan
-    b.plan same a.parted b.parted
+    b.plan same a.divided b.divided
     ∙ sym b.page)
     a.quietly b.quietly
 

@@ -96,7 +96,7 @@ pub record SetStoppedEarly (manner : Manner) (even : Bool) (text : List ℕ) (o 
   pub outcomes : List Outcome
   pub set : AreSet manner text outcomes
   pub plan : PagePlan
-  pub parted : IsPagePlan even (paper_in text) outcomes plan
+  pub divided : IsPagePlan even (paper_in text) outcomes plan
   pub whole : HoldsPrefix o (document (sheet_of plan (paper_in text) outcomes))
   pub first : HoldsNoDocument o (sheet_of plan (paper_in text) (take count outcomes))
   pub all : (called : Called) → CallsPages manner even text called → HoldsPrefix o called.page

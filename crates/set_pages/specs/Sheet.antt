@@ -71,8 +71,8 @@ abbrev pub AreFilledBy : PagePlan → Paper → List Outcome → List Spot → T
 AreFilledBy PagePlan.Filled paper outcomes spots = AreFilled (body_height paper) (all_blocks outcomes) spots
 AreFilledBy (PagePlan.At planned) paper outcomes spots = spots ≡ planned
 
--- the blocks of the outcomes at these spots: each is on its page, 1500 under the one before it or at the top of the
--- next page
+-- the blocks of the outcomes at these spots: each is on its page, `block_gap` under the one before it or at the top of
+-- the next page
 pub record AreStanding (plan : PagePlan) (paper : Paper) (outcomes : List Outcome) (spots : List Spot) : Type 0 where
   pub within : AreWithin (body_height paper) (all_blocks outcomes) spots
   pub stacked : StandByPages (body_height paper) (all_blocks outcomes) spots
