@@ -16,14 +16,16 @@ use Rattle.mus_onsets.specs.Keys.{head_key, voice_keys}
 use Rattle.mus_onsets.specs.Onsets.{timeline_of}
 use Rattle.mus_onsets.specs.Order.{key_rank}
 use Rattle.mus_onsets.proofs.RankLaws.{rank_at_place}
+use Rattle.mus_laid.specs.declared.laid.Laid.{Laid}
 use Rattle.mus_laid.specs.declared.laid.StaffMarks.{StaffMarks}
 use Rattle.mus_laid.specs.declared.laid.SystemMarks.{SystemMarks}
 use Rattle.mus_drawn.specs.declared.drawn.DrawnVoice.{DrawnVoice}
 use Rattle.mus_drawn.specs.Drawn.{drawn_voice}
 use Rattle.mus_time.proofs.Called.{staff_same}
 use Rattle.mus_bridges.specs.Bridges.{bridges_of}
+use Rattle.mus_slots.specs.Staff.{staff_laid}
 use Rattle.mus_slots.specs.Voice.{slots_of_voices}
-use Rattle.mus_slots.proofs.Marks.{all_mapped}
+use Rattle.mus_slots.proofs.Marks.{FitsVoice, all_mapped}
 use Rattle.mus_marks.specs.Staff.{staff_over, verses_on}
 use Rattle.mus_marks.specs.System.{IsCall, drawn_staves, is_drawn_lower}
 use Rattle.mus_marks.proofs.Fitting.{staves_fit}
@@ -31,13 +33,13 @@ use Rattle.mus_marks.proofs.Groups.{grouped_all, grouped_whole}
 use Rattle.mus_marks.specs.Staff.{slotted_staff}
 use Rattle.mus_marks.proofs.Placed.{IsReady, all_ready}
 use Rattle.mus_marks.proofs.SystemSlots.{marks_are_slots}
-use Rattle.law_marks_in_range.specs.Ranks.{AreAnchored, AreMarksRanked, IsRanked, marks_ranks, staves_ranks}
+use Rattle.law_marks_in_range.specs.Ranks.{AreAnchored, IsRanked, marks_ranks, staves_ranks}
 use Rattle.law_marks_in_range.specs.Shown.{IsShown}
-use Rattle.law_marks_in_range.specs.Texts.{HavePrinted}
+use Rattle.law_marks_in_range.specs.Texts.{HasPrinted}
 use Rattle.law_marks_in_range.proofs.Between.{AreBetween}
 use Rattle.law_marks_in_range.proofs.Bridged.{voices_between}
 use Rattle.law_marks_in_range.proofs.Planned.{voice_planned}
-use Rattle.law_marks_in_range.proofs.Printed.{staves_printed}
+use Rattle.law_marks_in_range.proofs.Printed.{staff_printed}
 use Rattle.law_marks_in_range.proofs.Staves.{IsInside, all_between, own_columns, staff_holds, staff_ranked}
 
 -- what one member of a list has, others have through it
@@ -97,19 +99,23 @@ module _ (s : Score) (a b : ℕ) (m : SystemMarks) (good : IsGoodScore s) (rises
       (recursion_from_All (λ v. Bridges (drawn_voice v)) s.voices
       (voices_between s a b m.keys good rises within call.keys)))
 
-  abbrev IsRankedStaff : StaffMarks → Type 0
-  IsRankedStaff staff = AreMarksRanked (length m.keys) staff.marks
-
-  each_ranked : (staves : List (List DrawnVoice))
-      → AllByRecursion (AllByRecursion Bridges) staves → AllByRecursion IsRankedStaff (map staff staves)
+  -- what holds of all marks of each staff, if Q holds of its voices
+  each_staff : (Q : DrawnVoice → Type 0) (P : Laid → Type 0)
+      → ((voices : List DrawnVoice)
+      → AllByRecursion Q voices
+      → AllByRecursion P (staff_laid m.keys (verses_on voices) (slots_of_voices 0 lengths a b voices)))
+      → AllByRecursion (AllByRecursion Q) (drawn_staves s) → All (λ (t : StaffMarks). All P t.marks) m.staves
   unfolding staff_over
-  each_ranked [] h = tt
-  each_ranked (voices ∷ staves) h = (
-    All-from_recursion (λ laid. IsRanked (length m.keys) laid.mark) (staff voices).marks
-        (staff_ranked m.keys (verses_on voices) (slots_of_voices 0 lengths a b voices)
-        (all_between m.keys lengths a b 0 voices h.0)),
-    each_ranked staves h.1,
-  )
+  each_staff Q P holds known =
+      subst (All (λ (t : StaffMarks). All P t.marks)) (sym staves_same)
+      (All-from_recursion (λ (t : StaffMarks). All P t.marks) (map staff (drawn_staves s)) (along (drawn_staves s) known))
+    where
+      along : (staves : List (List DrawnVoice))
+          → AllByRecursion (AllByRecursion Q) staves
+          → AllByRecursion (λ (t : StaffMarks). All P t.marks) (map staff staves)
+      along [] h = tt
+      along (voices ∷ staves) h =
+          (All-from_recursion P (staff voices).marks (holds voices h.0), along staves h.1)
 
   each_holds : (k : ColumnKey)
       → Contains m.keys k → (staves : List (List DrawnVoice))
@@ -136,47 +142,45 @@ module _ (s : Score) (a b : ℕ) (m : SystemMarks) (good : IsGoodScore s) (rises
       (recursion_from_All _ s.voices (λ i d within'. subst (λ t. Contains t k) (staff_same lengths a b _)))
       (call.keys.only k inside))))
 
-  staves_anchored : AreAnchored (length m.keys) (staves_ranks (map staff (drawn_staves s)))
+  staves_anchored : AreAnchored (length m.keys) (staves_ranks m.staves)
   staves_anchored i inside =
       let key = get_or m.keys i (head_key a) in
       let held = Contains-get_or m.keys i (head_key a) inside in
       let ranks = λ (voices : List DrawnVoice). marks_ranks (staff voices).marks in
-      found i (staves_ranks (map staff (drawn_staves s)))
-      (subst (λ ns. Contains ns i) (sym (flat_map-map (λ (t : StaffMarks). marks_ranks t.marks) staff (drawn_staves s)))
+      found i (staves_ranks m.staves)
+      (subst (λ ns. Contains ns i)
+      (sym (ap staves_ranks staves_same ∙ flat_map-map (λ (t : StaffMarks). marks_ranks t.marks) staff (drawn_staves s)))
       (subst (Contains (flat_map ranks (drawn_staves s))) (rank_at_place m.keys i (head_key a) call.keys.rise inside)
       (of_each (flat_map (own_columns m.keys lengths a b)) ranks key (key_rank m.keys key) (drawn_staves s)
       (each_holds key held (drawn_staves s) staves_inside) (staff_calls key held))))
 
-  staves_some : 1 ≤ length s.voices → 1 ≤ length (drawn_staves s)
-  staves_some some = by (drawn_staves s) (grouped_whole is_drawn_lower (map drawn_voice s.voices))
+  staves_some : 1 ≤ length s.voices → 1 ≤ length m.staves
+  staves_some some =
+      subst (λ (staves : List StaffMarks). 1 ≤ length staves) (sym staves_same)
+      (by (drawn_staves s) (grouped_whole is_drawn_lower (map drawn_voice s.voices)))
     where
-      by : (staves : List (List DrawnVoice)) → flat_map (λ g. g) staves ≡ map drawn_voice s.voices → 1 ≤ length staves
+      by : (staves : List (List DrawnVoice))
+          → flat_map (λ g. g) staves ≡ map drawn_voice s.voices → 1 ≤ length (map staff staves)
       by [] e =
           let long = ap (λ vs. length vs) e in
           let count = length-map s.voices drawn_voice in
-          omega (arith, long, count, some)
+          absurd (omega (arith, long, count, some))
       by (voices ∷ staves) e = omega arith
 
 -- what a score with a voice calls for in some of its measures can be shown
 pub call_shown : (s : Score) (a b : ℕ) (m : SystemMarks)
     → IsGoodScore s → 1 ≤ length s.voices → a < b → b ≤ s.measures → IsCall s (timeline_of s) a b m → IsShown m
 call_shown s a b m good some rises within call =
-    let staff = slotted_staff m.keys (timeline_of s).lengths a b in
-    let same = staves_same s a b m good rises within call in
-    let count = length-map (drawn_staves s) staff in
-    let staves = staves_some s a b m good rises within call some in record {
+    let lengths = (timeline_of s).lengths in
+    let each = each_staff s a b m good rises within call in
+    record {
       rises = let from = call.from in let to = call.to in omega (arith, rises);
-      staves = subst (λ (staves : List StaffMarks). 1 ≤ length staves) (sym same) (omega (arith, count, staves));
+      staves = staves_some s a b m good rises within call some;
       ranked =
-          subst (All (λ (staff : StaffMarks). AreMarksRanked (length m.keys) staff.marks)) (sym same)
-          (All-from_recursion (λ (staff : StaffMarks). AreMarksRanked (length m.keys) staff.marks)
-          (map staff (drawn_staves s))
-          (each_ranked s a b m good rises within call (drawn_staves s)
-          (staves_between s a b m good rises within call)));
-      anchored =
-          subst (λ staves. AreAnchored (length m.keys) (staves_ranks staves)) (sym same)
-          (staves_anchored s a b m good rises within call);
+          each (λ v. AreBetween m.keys (bridges_of lengths a b v)) (λ laid. IsRanked (length m.keys) laid.mark)
+          (λ voices h. staff_ranked m.keys (verses_on voices) _ (all_between m.keys lengths a b 0 voices h))
+          (staves_between s a b m good rises within call);
+      anchored = staves_anchored s a b m good rises within call;
       texts =
-          subst (All (λ (staff : StaffMarks). HavePrinted staff.marks)) (sym same)
-          (staves_printed m.keys (timeline_of s).lengths a b (drawn_staves s) (staves_fit s good));
+          each FitsVoice (λ laid. HasPrinted laid.mark) (staff_printed m.keys lengths a b) (staves_fit s good);
     }

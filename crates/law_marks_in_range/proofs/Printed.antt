@@ -1,21 +1,20 @@
 -- The texts of the marks that a score calls for can be printed.
-use Rattle.std.proofs.Common.{ℕ, ◌≤◌, length, List, [], ◌∷◌, map, refl, sym, subst, arith}
+use Rattle.std.proofs.Common.{ℕ, ◌≤◌, length, List, refl, sym, subst, arith}
 use Rattle.std.proofs.lemmas.Bool.Decides.{nat_tests}
-use Rattle.std.proofs.lemmas.List.Elements.{All-from_recursion}
-use Rattle.std.specs.List.{All, AllByRecursion}
+use Rattle.std.specs.List.{AllByRecursion}
 use Rattle.mus_units.specs.declared.key.Meter.{Meter}
 use Rattle.mus_units.specs.Good.{IsGoodMeter}
 use Rattle.mus_onsets.specs.declared.keys.ColumnKey.{ColumnKey}
 use Rattle.mus_laid.specs.declared.drawn.BridgeShape.{BridgeShape}
 use Rattle.mus_laid.specs.declared.laid.Laid.{Laid}
-use Rattle.mus_laid.specs.declared.laid.StaffMarks.{StaffMarks}
 use Rattle.mus_laid.specs.Ranked.{drawn_at, span_at}
 use Rattle.mus_ink.specs.Signatures.{meter_marks}
 use Rattle.{mus_words.proofs.EachWord.{IsShown}, mus_drawn.specs.declared.drawn.DrawnVoice.{DrawnVoice}}
+use Rattle.mus_slots.specs.Staff.{staff_laid}
+use Rattle.mus_slots.specs.Voice.{slots_of_voices}
 use Rattle.mus_slots.proofs.Marks.{FitsVoice, OfLaid, staff_all}
-use Rattle.mus_marks.specs.Staff.{staff_over, verses_on}
-use Rattle.mus_marks.specs.Staff.{slotted_staff}
-use Rattle.law_marks_in_range.specs.Texts.{HasPrinted, HavePrinted, IsPrinted}
+use Rattle.mus_marks.specs.Staff.{verses_on}
+use Rattle.law_marks_in_range.specs.Texts.{HasPrinted, IsPrinted}
 use Rattle.law_marks_in_range.proofs.PrintedTexts.{digits_printed, text_printed}
 
 abbrev IsGood : Laid → Type 0
@@ -50,20 +49,8 @@ all_good verses keys = record {
   of_bridge = λ b. span _ _ b.span;
 }
 
-pub staves_printed : (keys : List ColumnKey) (lengths : List ℕ) (a b : ℕ) (staves : List (List DrawnVoice))
-    → AllByRecursion (AllByRecursion FitsVoice) staves
-    → All (λ (staff : StaffMarks). HavePrinted staff.marks) (map (slotted_staff keys lengths a b) staves)
-unfolding staff_over
-staves_printed keys lengths a b staves fit = All-from_recursion _ _ (each staves fit)
-  where
-    each : (staves : List (List DrawnVoice))
-        → AllByRecursion (AllByRecursion FitsVoice) staves
-        → AllByRecursion (λ (staff : StaffMarks). HavePrinted staff.marks)
-        (map (slotted_staff keys lengths a b) staves)
-    each [] fit = tt
-    each (voices ∷ staves) fit = (
-      All-from_recursion IsGood (slotted_staff keys lengths a b voices).marks
-          (staff_all (verses_on voices) keys IsGood (all_good (verses_on voices) keys) lengths a b voices
-          (omega arith) fit.0),
-      each staves fit.1,
-    )
+pub staff_printed : (keys : List ColumnKey) (lengths : List ℕ) (a b : ℕ) (voices : List DrawnVoice)
+    → AllByRecursion FitsVoice voices
+    → AllByRecursion IsGood (staff_laid keys (verses_on voices) (slots_of_voices 0 lengths a b voices))
+staff_printed keys lengths a b voices fit =
+    let verses = verses_on voices in staff_all verses keys IsGood (all_good verses keys) lengths a b voices (omega arith) fit
