@@ -10,7 +10,8 @@ use Rattle.mus_laid.specs.declared.boxes.HeightRange.{HeightRange}
 use Rattle.mus_laid.specs.declared.drawn.Bridge.{Bridge}
 use Rattle.mus_laid.specs.declared.laid.Laid.{Laid}
 use Rattle.mus_laid.specs.declared.laid.StaffMarks.{StaffMarks}
-use Rattle.mus_laid.specs.Boxes.{heights, heights_of, over_marks, staff_heights, top_line, union_of_heights}
+use Rattle.mus_laid.specs.Boxes.{heights, heights_of, over_marks, staff_heights, union_of_heights}
+use Rattle.mus_laid.specs.Distances.{top_line}
 use Rattle.mus_laid.specs.Ranked.{bridge_at, by_columns}
 use Rattle.mus_words.specs.declared.texts.TextPlace.{TextPlace}
 use Rattle.mus_drawn.specs.declared.drawn.DrawnEvent.{DrawnEvent}
