@@ -117,9 +117,6 @@ first_no_key number (Written text) more rest h =
     subst (λ s. FirstIsNoKey (line_at number (Written s) more ++ rest)) (sym (x_text text h))
     (x_first number (drop 2 text) more rest)
 
-some_no : {A : Type 0} (a : A) → not (is_some (Some a)) ≡ true → ⊥
-some_no a e = cc
-
 two_by : (tune : TuneText) (place : Option ℕ)
     → key_place tune.lines ≡ place → FirstIsNoKey tune.lines → not (is_some (fault_by tune place)) ≡ true
     → 2 ≤ length tune.lines
@@ -156,10 +153,10 @@ headed_cons tune tunes = sum_by-cons (λ t. cond (is_headed t) 1 0) tune tunes
 
 module _ (number ordinal : ℕ) (line : LineContent) (more : List LineContent) where
   -- the first tune has at least two lines if it has no fault in its header
-  first_few : begins_tune line ≡ true
+  tune_few : begins_tune line ≡ true
       → 2 * cond (is_headed (tune_from ordinal number line more)) 1 0
       ≤ written_one line + length (part_from (suc number) more)
-  first_few begins =
+  tune_few begins =
       let rest = part_from (suc number) more in
       omega (
         arith,
@@ -191,7 +188,7 @@ parts_few n o m (line ∷ more) =
       arith,
       no_part n o line more e,
       headed_cons (tune_from o m line more) others,
-      first_few m o line more e,
+      tune_few m o line more e,
       parts_few (suc m) (suc o) (suc m) more,
     ))
     (λ e. omega (arith, part_few n o line more, parts_few (suc n) o (suc m) more)))
