@@ -105,8 +105,8 @@ def prove(crate, sums, jobs):
         except OSError:  # another clone has proved the same meanwhile
             shutil.rmtree(part)
         took = time.monotonic() - before
-    sums[crate.name] = summed(room, all_files(room))
     put_statements(room, os.path.dirname(crate.rlib))
+    sums[crate.name] = summed(room, all_files(room))  # from here on those above may begin
     return None, took
 
 

@@ -1,18 +1,11 @@
 -- There is a greatest force, or the columns can't be within the width at all.
-use Rattle.std.proofs.Common.{ℕ, zero, suc, ◌<◌, ◌≤◌, inl, inr, ◌⊎◌, List, length, Option, IfSome, slice_index, arith}
-use Rattle.std.proofs.Common.{sym, subst}
+use Rattle.std.proofs.Common.{ℕ, zero, suc, ◌<◌, ◌≤◌, inl, inr, ◌⊎◌, List, length, Option, Some, IfSome}
+use Rattle.std.proofs.Common.{slice_index, arith, sym, subst}
 use Rattle.std.proofs.lemmas.Bool.{cases_eq}
 use Rattle.lay_springs.specs.declared.traits.Reach.{Reach}
-use Rattle.lay_springs.specs.Fit.{Fits, Passes, CanStandWithin}
+use Rattle.lay_springs.specs.Fit.{Passes, CanStandWithin, IsGreatestForce}
 use Rattle.lay_springs.proofs.Longer.{cannot_stand}
 use Rattle.lay_springs.proofs.Made.{fits_or_passes}
-
--- a force, and none greater at which the columns can be within the width
-pub record IsGreatest (n : ℕ) (reach : ℕ → ℕ → Option Reach) (gaps : List ℕ) (spring : ℕ → ℕ → ℕ)
-    (width force : ℕ) : Type 0 where
-  pub bound : force ≤ 2048
-  pub fits : Fits n reach gaps spring width force
-  pub greatest : (g : ℕ) → force < g → g ≤ 2048 → CanStandWithin n reach gaps spring width g → ⊥
 
 module _ (n : ℕ) (reach : ℕ → ℕ → Option Reach) (gaps : List ℕ) (spring : ℕ → ℕ → ℕ) (width : ℕ) (some : 0 < n)
     (near : (k lane : ℕ) → lane < length gaps → IfSome (reach k lane) (λ r. (r.left ≤ 1048576) × (r.right ≤ 1048576)))
@@ -23,14 +16,15 @@ module _ (n : ℕ) (reach : ℕ → ℕ → Option Reach) (gaps : List ℕ) (spr
 
   below : (m : ℕ) → m ≤ 2048
       → ((g : ℕ) → m < g → g ≤ 2048 → CanStandWithin n reach gaps spring width g → ⊥)
-      → ((force : ℕ) × IsGreatest n reach gaps spring width force) ⊎ (CanStandWithin n reach gaps spring width 0 → ⊥)
+      → ((force : ℕ) × IsGreatestForce n reach gaps spring width 2048 (Some force))
+      ⊎ (CanStandWithin n reach gaps spring width 0 → ⊥)
   below zero b none = elim (fits_or_passes n reach gaps spring width 0 some near narrow (λ i. short 0 i b)) [
-    | inl f ↦ inl (0, record { bound = b; fits = f; greatest = none })
+    | inl f ↦ inl (0, record { bound = b; fits = f; greatest = none; none = tt })
     | inr p ↦ inr (never 0 p)
   ]
   below (suc m) b none =
       elim (fits_or_passes n reach gaps spring width (suc m) some near narrow (λ i. short (suc m) i b)) [
-        | inl f ↦ inl (suc m, record { bound = b; fits = f; greatest = none })
+        | inl f ↦ inl (suc m, record { bound = b; fits = f; greatest = none; none = tt })
         | inr p ↦
             below m (omega (arith, b)) (λ g l w c. elim (cases_eq (suc m) g) [
               | inl e ↦ never (suc m) p (subst (λ k. CanStandWithin n reach gaps spring width k) (sym e) c)
@@ -38,6 +32,6 @@ module _ (n : ℕ) (reach : ℕ → ℕ → Option Reach) (gaps : List ℕ) (spr
             ])
       ]
 
-  pub has_force : ((force : ℕ) × IsGreatest n reach gaps spring width force)
+  pub has_force : ((force : ℕ) × IsGreatestForce n reach gaps spring width 2048 (Some force))
       ⊎ (CanStandWithin n reach gaps spring width 0 → ⊥)
   has_force = below 2048 (omega arith) (λ g l w c. omega (arith, l, w))

@@ -13,7 +13,7 @@ use Rattle.lay_springs.specs.ReachView.{reach_in_near}
 use Rattle.lay_springs.proofs.Ends.{lengths_short}
 use Rattle.lay_springs.proofs.Placing.{near_at}
 use Rattle.lay_reaches.specs.declared.column.Column.{Column}
-use Rattle.lay_reaches.specs.Column.{length_scales, length_short}
+use Rattle.lay_reaches.specs.Column.{length_short}
 use Rattle.lay_reaches.specs.Columns.{column_reach}
 use Rattle.lay_reaches.proofs.Gaps.{gaps_narrow}
 use Rattle.lay_spans.specs.Columns.{AreMeasures, span_columns}
@@ -40,18 +40,14 @@ columns_near columns k lane =
 pub columns_short : (columns : List Column) (force i : ℕ)
     → force ≤ 2048 → length_at column_length columns force i ≤ 1048576
 columns_short columns force i bound =
-    lengths_short column_length columns force i (λ c. length_short c.natural) (λ c. length_scales c.natural force)
-    (omega (arith, bound))
+    lengths_short column_length columns force i (λ c. length_short c.natural force (omega (arith, bound)))
 
 module _ (gaps : List ℕ) (width : ℕ) (narrow : All (λ g. g ≤ 2 ^ 20) gaps) where
   pub has_force_in : (columns : List Column)
       → 0 < length columns → ((force : ℕ) × IsForceOf gaps width columns force) ⊎ (CanStandIn gaps width columns → ⊥)
   has_force_in columns some =
-      elim (has_force (length columns) (reach_at column_reach columns) gaps (length_at column_length columns) width some
-      (λ k lane l. columns_near columns k lane) (λ lane l. narrow lane 0 l) (columns_short columns)) [
-        | inl f ↦ inl (f.0, record { bound = f.1.bound; fits = f.1.fits; greatest = f.1.greatest })
-        | inr never ↦ inr never
-      ]
+      has_force (length columns) (reach_at column_reach columns) gaps (length_at column_length columns) width some
+      (λ k lane l. columns_near columns k lane) (λ lane l. narrow lane 0 l) (columns_short columns)
 
   -- the row of bar a
   module _ (starts others : List (List Column)) (forced : ℕ → Bool)

@@ -1,5 +1,6 @@
 -- The spring of a column at a force, as placing needs it.
-use Rattle.std.{specs.Prelude.{◌≡◌, ℕ, ◌*◌, ◌/◌, ◌^◌, ◌≤◌, min}, proofs.Common.{arith, refl}}
+use Rattle.std.specs.Prelude.{◌≡◌, ℕ, ◌*◌, ◌/◌, ◌^◌, ◌<◌, ◌≤◌, min}
+use Rattle.std.proofs.{Common.{arith, refl}, Math.Nat.mul-le-mul_right}
 
 -- no natural length passes 4000
 unfoldable pub spring_length : ℕ → ℕ → ℕ
@@ -13,6 +14,10 @@ pub length_scales : (n f : ℕ) → spring_length n f ≡ spring_length n 256 * 
 unfolding spring_length
 length_scales n f = let natural : min n 4000 * 256 / 256 ≡ min n 4000 = omega arith in rw natural refl
 
-pub length_short : (n : ℕ) → spring_length n 256 ≤ 2 ^ 12
+pub length_short : (n f : ℕ) → f < 2 ^ 16 → spring_length n f ≤ 2 ^ 20
 unfolding spring_length
-length_short n = omega arith
+length_short n f l = let most : min n 4000 ≤ 4000 = omega arith in let up = mul-le-mul_right f most in omega arith
+
+pub length_slack : (n : ℕ) → spring_length n 0 ≡ 0
+unfolding spring_length
+length_slack n = omega arith

@@ -1,7 +1,7 @@
 ghost use Rattle.lay_springs.specs.ReachView.{reach_in};
 
 use crate::stands::Reaches;
-use lay_springs::{ReachView, Spaced, Spring};
+use lay_springs::{LinearSpring, ReachView, Spaced, Spring};
 use mus_onsets::ColumnKey;
 
 const MOST_NATURAL: u32 = 4000;
@@ -30,7 +30,7 @@ impl Spaced for Column {
 }
 
 impl Spring for Column {
-    ghost use Rattle.lay_reaches.specs.Column.{spring_length, length_scales, length_short};
+    ghost use Rattle.lay_reaches.specs.Column.{spring_length, length_rises, length_short, length_slack};
 
     ghost length_of = { λ c f. spring_length c.natural f };
 
@@ -39,7 +39,15 @@ impl Spring for Column {
         self.natural.min(MOST_NATURAL) * u32::from(force) / 256
     }
 
-    ghost is_short = { λ c. length_short c.natural };
+    ghost rises = { λ c f g l m. length_rises c.natural f g l };
+
+    ghost is_short = { λ c f l. length_short c.natural f l };
+
+    ghost is_slack = { λ c. length_slack c.natural };
+}
+
+impl LinearSpring for Column {
+    ghost use Rattle.lay_reaches.specs.Column.{length_scales};
 
     ghost scales = { λ c f. length_scales c.natural f };
 }

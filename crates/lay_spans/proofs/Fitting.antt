@@ -104,6 +104,7 @@ force_of f reach len gaps width most seen columns force e small bound fits great
         greatest g l k
         (subst (λ T. T) (sym (seen_as f reach len (λ n r l. CanStandWithin n r gaps l width g) seen columns e)) stands)
   ];
+  none = tt;
 }
 
 -- columns whose end passes the width can't be within it

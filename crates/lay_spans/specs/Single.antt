@@ -11,6 +11,7 @@ use Rattle.lay_springs.specs.declared.traits.Reach.{Reach}
 use Rattle.lay_springs.specs.Place.{reach_at, length_at}
 use Rattle.lay_springs.proofs.Longer.{stands}
 use Rattle.lay_springs.proofs.Ends.{apart_down, length_rises}
+use Rattle.lay_springs.proofs.Unique.{same_force}
 use Rattle.lay_rows.specs.Badness.{badness_of}
 use Rattle.lay_spans.specs.Columns.{AreMeasures, span_columns}
 use Rattle.lay_spans.specs.SpanList.{FitsAtForce, HasForce, IsCost, IsForce}
@@ -25,19 +26,11 @@ pub measures_prop : {C : Type 0} (reach : C → ℕ → Option Reach) (lanes : �
 measures_prop reach lanes starts others = hlevel (props, one_reach)
 
 module _ {C : Type 0} (reach : C → ℕ → Option Reach) (len : C → ℕ → ℕ) (gaps : List ℕ) (width : ℕ) where
-  not_weaker : (columns : List C) (f g : ℕ)
-      → IsForce reach len gaps width columns f → IsForce reach len gaps width columns g → f < g → ⊥
-  not_weaker columns f g h k less =
-      h.greatest g less k.bound
-      (stands (length columns) (reach_at reach columns) gaps (length_at len columns) width g k.fits)
-
   -- columns have one greatest force
   pub one_force : (columns : List C) (f g : ℕ)
       → IsForce reach len gaps width columns f → IsForce reach len gaps width columns g → f ≡ g
-  one_force columns f g h k = elim (cases_lt f g) [
-    | inl less ↦ absurd (not_weaker columns f g h k less)
-    | inr more ↦ elim (cases_lt g f) [ inl less ↦ absurd (not_weaker columns g f k h less) | inr same ↦ omega arith ]
-  ]
+  one_force columns =
+      same_force (length columns) (reach_at reach columns) gaps (length_at len columns) width 2048
 
   -- columns with a greatest force can be within the width
   pub can_stand : (columns : List C) (force : ℕ)

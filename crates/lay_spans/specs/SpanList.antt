@@ -2,7 +2,7 @@
 use Rattle.std.specs.Prelude.{◌≡◌, ℕ, ◌<◌, ◌≤◌, ◌⊎◌, ◌==◌, Bool, List, length, Option, Some, None, IsSome}
 use Rattle.lay_springs.specs.declared.traits.Reach.{Reach}
 use Rattle.lay_springs.specs.Place.{reach_at, length_at}
-use Rattle.lay_springs.specs.Fit.{Fits, CanStandWithin}
+use Rattle.lay_springs.specs.Fit.{Fits, CanStandWithin, IsGreatestForce}
 use Rattle.lay_breaks.specs.declared.costs.Span.{Span}
 use Rattle.lay_breaks.specs.Spans.{listed}
 use Rattle.lay_rows.specs.Badness.{badness_of}
@@ -19,11 +19,9 @@ FitsAtForce reach len gaps width force columns =
     CanStandWithin (length columns) (reach_at reach columns) gaps (length_at len columns) width force
 
 -- force is the greatest from 0 to 2048 at which the columns end within the width
-pub record IsForce {C : Type 0} (reach : C → ℕ → Option Reach) (len : C → ℕ → ℕ) (gaps : List ℕ) (width : ℕ)
-    (columns : List C) (force : ℕ) : Type 0 where
-  pub bound : force ≤ 2048
-  pub fits : FitsAt reach len gaps width force columns
-  pub greatest : (g : ℕ) → force < g → g ≤ 2048 → FitsAtForce reach len gaps width g columns → ⊥
+abbrev pub IsForce : {C : Type 0} → (C → ℕ → Option Reach) → (C → ℕ → ℕ) → List ℕ → ℕ → List C → ℕ → Type 0
+IsForce reach len gaps width columns force =
+    IsGreatestForce (length columns) (reach_at reach columns) gaps (length_at len columns) width 2048 (Some force)
 
 -- the span from bar a to bar b fits with a force: no forced bar is strictly inside, and the force is its columns' own
 pub record HasForce {C : Type 0} (reach : C → ℕ → Option Reach) (len : C → ℕ → ℕ) (gaps : List ℕ) (width : ℕ)

@@ -2,18 +2,17 @@ ghost use Rattle.std.specs.Prelude.{◌≡◌, ◌+◌, ◌<◌, ◌≤◌, ◌^
 ghost use Rattle.lay_spans.specs.Columns.{AreMeasures};
 ghost use Rattle.lay_spans.specs.Rows.{IsRowFrom};
 ghost use Rattle.lay_spans.specs.Single.{measures_prop, one_row, row_low};
-ghost use Rattle.lay_springs.proofs.Ends.{spring_rises};
 
 use crate::borrowed::BorrowedColumns;
 use crate::rows::row_from;
 use lay_rows::RowMaker;
-use lay_springs::{Spaced, Spring};
+use lay_springs::{LinearSpring, Spaced};
 use mus_units::{Memory, Row};
 use std::alloc::Global;
 
 /// The columns of measures, and all else that determines which of their spans fit.
 #[derive(Drop)]
-pub(crate) struct SpanMaker<'a, C: Spaced + Spring> {
+pub(crate) struct SpanMaker<'a, C: Spaced + LinearSpring> {
     pub(crate) alloc: Global,
     pub(crate) starts: &'a [Row<C>],
     pub(crate) others: &'a [BorrowedColumns<'a, C>],
@@ -27,7 +26,7 @@ pub(crate) struct SpanMaker<'a, C: Spaced + Spring> {
     pub(crate) ghost marked: { length marks.now ≡ length starts.now + 1 },
 }
 
-impl<'a, C: Spaced + Spring> RowMaker for SpanMaker<'a, C> {
+impl<'a, C: Spaced + LinearSpring> RowMaker for SpanMaker<'a, C> {
     ghost bars = { λ m. length m.starts.now };
 
     ghost is_row = { λ m a row.
@@ -48,8 +47,7 @@ impl<'a, C: Spaced + Spring> RowMaker for SpanMaker<'a, C> {
 
     ghost is_one = { λ m a row other l h k.
         one_row C.reach_of C.length_of m.gaps.now m.width m.starts.now m.others.now
-        (λ b. slice_index_or m.marks.now b false) (λ c f g l m. spring_rises C.length_of C.scales c f g l) a row other h
-        k };
+        (λ b. slice_index_or m.marks.now b false) (λ c f g l m. C.rises c f g l m) a row other h k };
 
     ghost is_low = { λ m a row l h.
         row_low C.reach_of C.length_of m.gaps.now m.width m.starts.now m.others.now

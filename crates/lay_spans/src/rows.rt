@@ -9,7 +9,7 @@ use crate::borrowed::BorrowedColumns;
 use crate::seen::BorrowedColumn;
 use lay_breaks::Span;
 use lay_rows::badness;
-use lay_springs::{Progress, Spaced, Spring, fit_within, most_columns};
+use lay_springs::{LinearSpring, Progress, Spaced, fit_within, most_columns};
 use mus_units::{Memory, Row};
 use std::alloc::Global;
 
@@ -21,7 +21,7 @@ const SPANS_OFTEN: usize = 8;
 
 /// Returns the greatest force from 0 to `most` at which the columns end within the width. `None`
 /// exactly when they can't be within it; more than `most_columns` never can.
-fn greatest_force<C: Spaced + Spring>(
+fn greatest_force<C: Spaced + LinearSpring>(
     cols: &[C],
     gaps: &[u32],
     width: u32,
@@ -73,7 +73,7 @@ pub(crate) fn measure<'a, C>(
 }
 
 /// Adds borrowed columns to those in `seen`.
-pub(crate) fn see<'a, C: Spaced + Spring>(
+pub(crate) fn see<'a, C: Spaced + LinearSpring>(
     seen: &mut Row<BorrowedColumn<'a, C>>,
     columns: &'a [C],
 ) -> Result<(), Memory>
@@ -110,7 +110,7 @@ fn room_from<'a, C>(
 /// the columns of one measure at a time, and stops at the first span that doesn't fit or after a
 /// forced bar. Each search for a force resumes from the columns as the search before left them, and
 /// takes no memory: its scratch is reserved before the first.
-pub(crate) fn row_from<'a, C: Spaced + Spring>(
+pub(crate) fn row_from<'a, C: Spaced + LinearSpring>(
     alloc: Global,
     starts: &'a [Row<C>],
     others: &'a [BorrowedColumns<'a, C>],

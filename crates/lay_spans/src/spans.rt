@@ -12,7 +12,7 @@ use crate::rows::{MOST_OFTEN, list_rows, measure, see};
 use crate::seen::BorrowedColumn;
 use eng_jobs::Jobs;
 use lay_rows::make_rows;
-use lay_springs::{Spaced, Spring};
+use lay_springs::{LinearSpring, Spaced};
 use mus_units::{Memory, Row};
 use std::alloc::Global;
 use std::thread::Threads;
@@ -27,7 +27,7 @@ use std::thread::Threads;
 ///
 /// The spans from the bars of either half are found in parallel if threads can be made. The result
 /// doesn't depend on it.
-pub fn spans_of<'a, R: Threads + Sync, C: Spaced + Spring + Sync>(
+pub fn spans_of<'a, R: Threads + Sync, C: Spaced + LinearSpring + Sync>(
     rt: &R,
     alloc: Global,
     starts: &'a [Row<C>],
@@ -62,7 +62,7 @@ pub fn spans_of<'a, R: Threads + Sync, C: Spaced + Spring + Sync>(
 }
 
 /// Returns the columns of the span from bar `a` to bar `b`, as `spans_of` has it, in order.
-pub fn columns_in<'a, C: Spaced + Spring>(
+pub fn columns_in<'a, C: Spaced + LinearSpring>(
     alloc: Global,
     starts: &'a [Row<C>],
     others: &'a [BorrowedColumns<'a, C>],

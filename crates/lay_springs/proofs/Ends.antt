@@ -1,11 +1,10 @@
 -- The end of the columns, and how it grows with the force.
 use Rattle.std.proofs.Common.{◌≡◌, ℕ, ◌+◌, ◌-◌, ◌*◌, ◌/◌, ◌<◌, ◌≤◌, ℤ, pos, ◌+ℤ◌, ◌≤ℤ◌, List, Option, None, Some}
-use Rattle.std.proofs.Common.{option_map, unwrap_or, slice_get, arith, sym, ◌∙◌, refl}
+use Rattle.std.proofs.Common.{option_map, unwrap_or, slice_get, arith, sym, ◌∙◌}
 use Rattle.std.proofs.lemmas.Int.{ints}
 use Rattle.std.proofs.lemmas.Option.{same_Some}
-use Rattle.std.proofs.Math.Nat.{mul-le-mul_left, mul-le-mul_right}
 use Rattle.lay_springs.specs.declared.traits.Reach.{Reach}
-use Rattle.lay_springs.specs.Place.{length_at, StandApart}
+use Rattle.lay_springs.specs.Place.{length_at, AreLinear, StandApart}
 use Rattle.lay_springs.specs.Fit.{IsEndOf, EndsAt}
 use Rattle.lay_springs.proofs.Clear.{below_or_at}
 
@@ -44,16 +43,6 @@ end_down n reach gaps spring f g d e some le a b =
     a.end.least e (let p = b.end.past in omega (arith, ints))
     (λ k r l er. let q = b.end.reaches k r l er in omega (arith, ints))
 
--- a spring grows with the force
-pub spring_rises : {C : Type 0} (len : C → ℕ → ℕ)
-    → ((c : C) (f : ℕ) → len c f ≡ len c 256 * f / 256) → (c : C) (f g : ℕ) → f ≤ g → len c f ≤ len c g
-spring_rises len scales c f g l =
-    let less = scales c f in let more = scales c g in let up = mul-le-mul_left (len c 256) l in omega arith
-
-pub spring_short : (natural force length result : ℕ)
-    → natural ≤ 4096 → length ≡ natural * force / 256 → force < 65536 → result ≡ length → result ≤ 1048576
-spring_short natural force length result short scales small is = let most = mul-le-mul_right force short in omega arith
-
 -- the springs of a list of columns grow with the force
 pub length_rises : {C : Type 0} (len : C → ℕ → ℕ) (cols : List C) (f g : ℕ)
     → ((c : C) → len c f ≤ len c g) → (i : ℕ) → length_at len cols f i ≤ length_at len cols g i
@@ -63,12 +52,21 @@ length_rises len cols f g le i = at (slice_get cols i)
     at None = omega arith
     at (Some c) = le c
 
--- and are short at a small force
+-- and are short if those of all columns are
 pub lengths_short : {C : Type 0} (len : C → ℕ → ℕ) (cols : List C) (force i : ℕ)
-    → ((c : C) → len c 256 ≤ 4096) → ((c : C) → len c force ≡ len c 256 * force / 256) → force < 65536
-    → length_at len cols force i ≤ 1048576
-lengths_short len cols force i short scales small = at (slice_get cols i)
+    → ((c : C) → len c force ≤ 1048576) → length_at len cols force i ≤ 1048576
+lengths_short len cols force i short = at (slice_get cols i)
   where
     at : (o : _) → unwrap_or (option_map (λ c. len c force) o) 0 ≤ 1048576
     at None = omega arith
-    at (Some c) = spring_short (len c 256) force (len c force) (len c force) (short c) (scales c) small refl
+    at (Some c) = short c
+
+-- the springs of a list of linear columns are linear
+pub lengths_scale : {C : Type 0} (len : C → ℕ → ℕ) (cols : List C) (j : ℕ)
+    → ((c : C) (f : ℕ) → len c f ≡ len c 256 * f / 256) → AreLinear j (length_at len cols)
+lengths_scale len cols j scales force i less = at (slice_get cols i)
+  where
+    at : (o : _) → unwrap_or (option_map (λ c. len c force) o) 0
+        ≡ unwrap_or (option_map (λ c. len c 256) o) 0 * force / 256
+    at None = omega arith
+    at (Some c) = scales c force

@@ -135,10 +135,12 @@ placed_on {C} reach len short rest gaps p x more fronts room h = record {
         (sym (ap (λ o lane. option_and_then (λ c. reach c lane) o)
         (get_front short rest 0 (let w = h.within in omega arith))))
         (h.placed.first some));
-    near = λ g drop y e apart k l. rw (stays k l) (h.placed.near g drop y e
-        (fewer_apart p.count p.count _ _ gaps (length_at len short g) (length_at len (short ++ rest) g) y (omega arith)
-        same (same_length g) apart)
-        k l);
+    least = λ y apart k l. rw (stays k l) (h.placed.least y (short_apart p.force y apart) k l);
+    near =
+        λ linear g drop y e apart k l.
+        rw (stays k l) (h.placed.near
+        (λ force i less. rw (same_length force i less, same_length 256 i less) at (linear force i less)) g drop y e
+        (short_apart g y apart) k l);
     small = λ k l. rw (stays k l) (h.placed.small k l);
   };
   front = λ some.
@@ -161,6 +163,13 @@ placed_on {C} reach len short rest gaps p x more fronts room h = record {
     same_length force i l =
         ap (λ o. unwrap_or (option_map (λ c. len c force) o) 0)
         (get_front short rest i (let w = h.within in omega arith))
+
+    short_apart : (force : ℕ) (y : List ℤ)
+        → StandApart p.count (reach_at reach (short ++ rest)) gaps (length_at len (short ++ rest) force) y
+        → StandApart p.count (reach_at reach short) gaps (length_at len short force) y
+    short_apart force y apart =
+        fewer_apart p.count p.count _ _ gaps (length_at len short force) (length_at len (short ++ rest) force) y
+        (omega arith) same (same_length force) apart
 
     stays : (k : ℕ) → k < p.count → slice_index_or (x ++ more) k (pos 0) ≡ slice_index_or x k (pos 0)
     stays k l = get_or_append_left x more (pos 0) k (let w = h.within in omega arith)

@@ -8,11 +8,12 @@ use Rattle.std.proofs.lemmas.Int.{ints, clamps}
 use Rattle.std.proofs.lemmas.Bool.{cases_lt}
 use Rattle.std.proofs.lemmas.List.{length-set, length-replicate}
 use Rattle.lay_springs.specs.declared.traits.Reach.{Reach}
-use Rattle.lay_springs.specs.Place.{IsPlacedTo, IsPlace}
-use Rattle.lay_springs.specs.Fit.{IsEndOf, EndsAt, Fits, Passes}
+use Rattle.lay_springs.specs.Place.{IsPlacedTo, IsPlace, StandApart, reach_at, length_at}
+use Rattle.lay_springs.specs.Fit.{IsEndOf, EndsAt, Fits, Passes, CanStandWithin}
 use Rattle.lay_springs.proofs.Clear.{below_or_at}
-use Rattle.lay_springs.proofs.Longer.{fewer_apart}
-use Rattle.lay_springs.proofs.Placing.{placed_first, placed_more, place_of}
+use Rattle.lay_springs.proofs.Ends.{lengths_short}
+use Rattle.lay_springs.proofs.Longer.{fewer_apart, stands}
+use Rattle.lay_springs.proofs.Placing.{placed_first, placed_more, place_of, near_at}
 
 -- the least number that is at least `from` and at least all that is required
 pub record Top (from : ℤ) (Asked : ℤ → Type 0) : Type 0 where
@@ -129,7 +130,19 @@ module _ (n : ℕ) (reach : ℕ → ℕ → Option Reach) (gaps : List ℕ) (spr
       let last = placed.small j (omega arith) in
       let low = last.0 in
       let high = last.1 in
-      let len = short j in (
+      let len = short j in
+      let least : (y : List ℤ) → StandApart (j + 1 + 1) reach gaps spring y → t.v ≤ℤ at y (j + 1) =
+      λ y a.
+      let before = fewer_apart (j + 1) (j + 1 + 1) reach reach gaps spring spring y (omega arith) (λ i lane l. refl)
+      (λ i l. refl) a in
+      let below = placed.least y before j (omega arith) in
+      let step = a.steps j (omega arith) in
+      let spr = a.springs j (omega arith) in
+      t.least (at y (j + 1)) (omega (arith, ints, clamps)) (λ w h.
+      let b = placed.least y before h.by h.within in
+      let c = a.lanes h.by (j + 1) h.within (omega arith) h.asks.by h.asks.asks.0 h.asks.asks.2.0 h.asks.within
+      h.asks.asks.1 h.asks.asks.2.1 in
+      rw h.asks.asks.2.2 (omega (arith, ints))) in (
         slice_set x (j + 1) t.v,
         length-set x (j + 1) t.v ∙ count,
         placed_more reach gaps (λ _. spring) 0 0 0 0 0 x (j + 1) t.v (omega arith) (omega (arith, l, count)) placed
@@ -142,18 +155,7 @@ module _ (n : ℕ) (reach : ℕ → ℕ → Option Reach) (gaps : List ℕ) (spr
               within = lt;
               asks = record { by = lane; within = le; asks = (r, er, (s, es, refl)) };
             }))
-            (λ g drop y e a.
-            let before = fewer_apart (j + 1) (j + 1 + 1) reach reach gaps spring spring y (omega arith)
-            (λ i lane l. refl) (λ i l. refl) a in
-            let below = placed.near 0 0 y refl before j (omega arith) in
-            let step = a.steps j (omega arith) in
-            let spr = a.springs j (omega arith) in
-            let less : t.v ≤ℤ at y (j + 1) = t.least (at y (j + 1)) (omega (arith, ints, clamps)) (λ w h.
-            let b = placed.near 0 0 y refl before h.by h.within in
-            let c = a.lanes h.by (j + 1) h.within (omega arith) h.asks.by h.asks.asks.0 h.asks.asks.2.0 h.asks.within
-            h.asks.asks.1 h.asks.asks.2.1 in
-            rw h.asks.asks.2.2 (omega (arith, ints))) in
-            omega (arith, ints, less)) (
+            least (λ _ g drop y e a. let less = least y a in omega (arith, ints, less)) (
               omega (arith, ints, clamps),
               t.least (pos (1048576 + 3145728 * (j + 1))) (omega (arith, ints, clamps)) (λ w h.
                   let up = (placed.small h.by h.within).1 in
@@ -205,3 +207,18 @@ fits_or_passes n reach gaps spring width force some near narrow short =
     let e = has_end (reach (n - 1)) (length gaps) (slice_index_or p.0 (n - 1) (pos 0)) in
     let ends : EndsAt n reach gaps spring force e.0 = record { x = p.0; place = p.1; end = e.1 } in
     elim (within_or_past e.0 width) [ inl l ↦ inl (e.0, ends, l) | inr g ↦ inr (e.0, ends, g) ]
+
+-- columns that can't even be within the width at force 0 pass it there
+pub passes_at_none : {C : Type 0} (reach : C → ℕ → Option Reach) (len : C → ℕ → ℕ) (cols : List C) (gaps : List ℕ)
+    (width : ℕ)
+    → 0 < length cols
+    → ((c : C) (lane : ℕ) → lane < length gaps → IfSome (reach c lane) (λ r. (r.left ≤ 1048576) × (r.right ≤ 1048576)))
+    → ((lane : ℕ) → lane < length gaps → slice_index gaps lane ≤ 1048576) → ((c : C) → len c 0 ≤ 1048576)
+    → (CanStandWithin (length cols) (reach_at reach cols) gaps (length_at len cols) width 0 → ⊥)
+    → Passes (length cols) (reach_at reach cols) gaps (length_at len cols) width 0
+passes_at_none reach len cols gaps width some near narrow short never =
+    elim (fits_or_passes (length cols) (reach_at reach cols) gaps (length_at len cols) width 0 some
+    (λ k lane l. near_at reach cols _ lane (λ c. near c lane l) k) narrow (λ i. lengths_short len cols 0 i short)) [
+      | inl fits ↦ absurd (never (stands _ _ _ _ _ _ fits))
+      | inr passes ↦ passes
+    ]

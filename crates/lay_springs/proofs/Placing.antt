@@ -5,7 +5,8 @@ use Rattle.std.proofs.Common.{subst, refl, get_or-set_same, get_or-set_other}
 use Rattle.std.proofs.lemmas.Int.{ints}
 use Rattle.std.proofs.lemmas.List.{get_or-take, length-take-le}
 use Rattle.lay_springs.specs.declared.traits.Reach.{Reach}
-use Rattle.lay_springs.specs.Place.{reach_at, length_at, IsClear, IsInside, StandApart, IsPlace, IsPlacedTo, slack}
+use Rattle.lay_springs.specs.Place.{reach_at, length_at, AreLinear, IsClear, IsInside, StandApart, IsPlace}
+use Rattle.lay_springs.specs.Place.{IsPlacedTo, slack}
 use Rattle.lay_springs.proofs.Clear.{below_or_at}
 use Rattle.lay_springs.proofs.Longer.{fewer_apart}
 use Rattle.lay_springs.proofs.Moved.{moved_apart}
@@ -29,8 +30,12 @@ module _ (reach : ℕ → ℕ → Option Reach) (gaps : List ℕ) (spring : ℕ 
       springs = λ i l. absurd (omega arith);
     };
     first = λ _. rw here (record { begins = begins; inside = inside; least = least });
+    least =
+        λ y h k l.
+        let z : 0 ≡ k = omega arith in let first = least (at y 0) (h.begins (omega arith)) (h.head (omega arith)) in
+        subst (λ k. at (slice_set x 0 v) k ≤ℤ at y k) z (rw here first);
     near =
-        λ g drop y e h k l.
+        λ _ g drop y e h k l.
         let z : 0 ≡ k = omega arith in let first = least (at y 0) (h.begins (omega arith)) (h.head (omega arith)) in
         subst (λ k. at (slice_set x 0 v) k ≤ℤ (at y k +ℤ pos (slack 0 0 drop))) z (rw here (omega (arith, ints)));
     small = λ k l. let z : 0 ≡ k = omega arith in
@@ -47,12 +52,13 @@ module _ (reach : ℕ → ℕ → Option Reach) (gaps : List ℕ) (spring : ℕ 
       → natural ≤ natural' → count ≤ count' → ((i : ℕ) → i + 1 ≡ j → (at x i +ℤ pos 100) ≤ℤ v)
       → ((i : ℕ) → i + 1 ≡ j → (at x i +ℤ pos (spring force i)) ≤ℤ v)
       → ((i : ℕ) → i < j → IsClear (reach i) (reach j) gaps (length gaps) (at x i) v)
-      → ((g drop : ℕ) (y : List ℤ)
+      → ((y : List ℤ) → StandApart (j + 1) reach gaps (spring force) y → v ≤ℤ at y j)
+      → (AreLinear (j + 1) spring → (g drop : ℕ) (y : List ℤ)
       → g + drop ≡ force → StandApart (j + 1) reach gaps (spring g) y
       → v ≤ℤ (at y j +ℤ pos (slack natural' count' drop)))
       → (pos 0 ≤ℤ v) × (v ≤ℤ pos (1048576 + 3145728 * j))
       → IsPlacedTo (j + 1) reach gaps spring force natural' count' (slice_set x j v)
-  placed_more natural count natural' count' x j v pos_j room h more many step spr clear near small = record {
+  placed_more natural count natural' count' x j v pos_j room h more many step spr clear least near small = record {
     apart = record {
       begins = λ _. rw (same 0 pos_j) (h.apart.begins pos_j);
       head = λ _. rw (same 0 pos_j) (h.apart.head pos_j);
@@ -69,15 +75,16 @@ module _ (reach : ℕ → ℕ → Option Reach) (gaps : List ℕ) (spring : ℕ 
           (λ e. rw (same i (omega arith), here) (spr i (sym e))) refl;
     };
     first = λ _. rw (same 0 pos_j) (h.first pos_j);
-    near = λ g drop y e a k l. below_or_at (λ k. at x' k ≤ℤ (at y k +ℤ pos (slack natural' count' drop))) k j l
+    least = λ y a k l. below_or_at (λ k. at x' k ≤ℤ at y k) k j l
+        (λ l. rw (same k l) (h.least y (first_apart force y a) k l))
+        (rw here (least y a));
+    near =
+        λ linear g drop y e a k l. below_or_at (λ k. at x' k ≤ℤ (at y k +ℤ pos (slack natural' count' drop))) k j l
         (λ l.
-        let old = h.near g drop y e
-        (fewer_apart j (j + 1) reach reach gaps (spring g) (spring g) y (omega arith) (λ i lane l. refl) (λ i l. refl)
-        a)
-        k l in
+        let old = h.near (λ force i less. linear force i (omega arith)) g drop y e (first_apart g y a) k l in
         let up = slack_up natural count natural' count' drop more many in
         rw (same k l) (omega (arith, ints)))
-        (rw here (near g drop y e a));
+        (rw here (near linear g drop y e a));
     small = λ k l. below_or_at (λ k. (pos 0 ≤ℤ at x' k) × (at x' k ≤ℤ pos (1048576 + 3145728 * k))) k j l
         (λ l. rw (same k l) (h.small k l))
         (rw here small);
@@ -92,6 +99,12 @@ module _ (reach : ℕ → ℕ → Option Reach) (gaps : List ℕ) (spring : ℕ 
       here : at (slice_set x j v) j ≡ v
       here = get_or-set_same x j v (pos 0) room
 
+      first_apart : (force : ℕ) (y : List ℤ)
+          → StandApart (j + 1) reach gaps (spring force) y → StandApart j reach gaps (spring force) y
+      first_apart force y a =
+          fewer_apart j (j + 1) reach reach gaps (spring force) (spring force) y (omega arith) (λ i lane l. refl)
+          (λ i l. refl) a
+
 -- all are placed
 pub place_of : (n : ℕ) (reach : ℕ → ℕ → Option Reach) (gaps : List ℕ) (spring : ℕ → ℕ → ℕ) (force natural count : ℕ)
     (x : List ℤ)
@@ -102,11 +115,7 @@ place_of n reach gaps spring force natural count x room h = record {
   apart =
       moved_apart n reach gaps (spring force) x (take n x) 0 1 (omega arith)
       (λ k l. rw (get_or-take n x k (pos 0) l) (omega (arith, ints))) h.apart;
-  least =
-      λ y a k l.
-      let z : force + 0 ≡ force = omega arith in
-      let near = h.near force 0 y z a k l in
-      rw (get_or-take n x k (pos 0) l) (omega (arith, ints));
+  least = λ y a k l. rw (get_or-take n x k (pos 0) l) (h.least y a k l);
 }
 
 -- the item at a column that was read

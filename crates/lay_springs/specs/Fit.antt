@@ -1,6 +1,6 @@
 -- How much force columns can take within a width.
 use Rattle.std.specs.Prelude.{◌≡◌, ℕ, ◌+◌, ◌-◌, ◌*◌, ◌/◌, Bool, ◌&&◌, nat_le, if◌then◌else◌, ◌<◌, ℤ, pos, ◌+ℤ◌, ◌≤ℤ◌}
-use Rattle.std.specs.Prelude.{◌<ℤ◌, List, ◌++◌, length, Option, Some, slice_index_or}
+use Rattle.std.specs.Prelude.{◌<ℤ◌, ◌^◌, ◌≤◌, List, ◌++◌, length, Option, Some, IfSome, IfNone, slice_index_or}
 use Rattle.lay_springs.specs.declared.traits.Reach.{Reach}
 use Rattle.lay_springs.specs.Place.{IsPlace, StandApart, reach_at, length_at}
 
@@ -58,6 +58,23 @@ pub record CanStandWithin (n : ℕ) (reach : ℕ → ℕ → Option Reach) (gaps
   pub reaches : (lane : ℕ) (r : Reach)
       → lane < length gaps → reach (n - 1) lane ≡ Some r
       → (slice_index_or y (n - 1) (pos 0) +ℤ pos r.right) ≤ℤ pos width
+
+-- the greatest force from 0 to `most` at which the columns end within the width; none if their end at force 0 passes it
+pub record IsGreatestForce (n : ℕ) (reach : ℕ → ℕ → Option Reach) (gaps : List ℕ) (spring : ℕ → ℕ → ℕ)
+    (width most : ℕ) (force : Option ℕ) : Type 0 where
+  pub bound : IfSome force (λ f. f ≤ most)
+  pub fits : IfSome force (Fits n reach gaps spring width)
+  -- at no greater one can they even be within it
+  pub greatest : IfSome force (λ f. (g : ℕ) → f < g → g ≤ most → CanStandWithin n reach gaps spring width g → ⊥)
+  pub none : IfNone force (Passes n reach gaps spring width 0)
+
+-- columns have only one such force
+abbrev pub OneForce : {C : Type 0} → (C → ℕ → Option Reach) → (C → ℕ → ℕ) → Type 0
+OneForce {C} reach len =
+    (columns : List C) (gaps : List ℕ) (width most : ℕ) (force other : Option ℕ) → 0 < length columns → most < 2 ^ 16
+    → IsGreatestForce (length columns) (reach_at reach columns) gaps (length_at len columns) width most force
+    → IsGreatestForce (length columns) (reach_at reach columns) gaps (length_at len columns) width most other
+    → force ≡ other
 
 -- the most columns that can be within a width, as neighbors are 100 apart
 abbrev pub most_columns : ℕ → ℕ

@@ -51,6 +51,11 @@ IsBelowAll n reach gaps spring x =
 abbrev pub slack : ℕ → ℕ → ℕ → ℕ
 slack natural count drop = (natural * drop + 255 * min count (natural * drop)) / 256
 
+-- the length of the spring at each of the first j columns is at any force this part of its natural length, the one at
+-- force 256
+abbrev pub AreLinear : ℕ → (ℕ → ℕ → ℕ) → Type 0
+AreLinear j spring = (force i : ℕ) → i < j → spring force i ≡ spring 256 i * force / 256
+
 -- no list that keeps n columns apart at a force that is less by `drop` is further below x than this slack
 abbrev pub IsNearLeast : ℕ → (ℕ → ℕ → Option Reach) → List ℕ → (ℕ → ℕ → ℕ) → ℕ → ℕ → ℕ → List ℤ → Type 0
 IsNearLeast n reach gaps spring force natural count x =
@@ -63,12 +68,14 @@ pub record IsPlace (n : ℕ) (reach : ℕ → ℕ → Option Reach) (gaps : List
   pub apart : StandApart n reach gaps spring x
   pub least : IsBelowAll n reach gaps spring x
 
--- the first j columns are placed at a force, with these tight springs
+-- the first j columns are placed at a force; these tight springs tell how near they come at a lesser one, if their
+-- springs are linear
 pub record IsPlacedTo (j : ℕ) (reach : ℕ → ℕ → Option Reach) (gaps : List ℕ) (spring : ℕ → ℕ → ℕ)
     (force natural count : ℕ) (x : List ℤ) : Type 0 where
   pub apart : StandApart j reach gaps (spring force) x
   pub first : 0 < j → IsFirst (reach 0) (length gaps) (slice_index_or x 0 (pos 0))
-  pub near : IsNearLeast j reach gaps spring force natural count x
+  pub least : IsBelowAll j reach gaps (spring force) x
+  pub near : AreLinear j spring → IsNearLeast j reach gaps spring force natural count x
   pub small : (k : ℕ)
       → k < j → (pos 0 ≤ℤ slice_index_or x k (pos 0)) × (slice_index_or x k (pos 0) ≤ℤ pos (1048576 + 3145728 * k))
 
@@ -95,7 +102,7 @@ pub record AreFrontiers (j : ℕ) (reach : ℕ → ℕ → Option Reach) (lanes 
 pub record HasPlaced (n : ℕ) (reach : ℕ → ℕ → Option Reach) (gaps : List ℕ) (spring : ℕ → ℕ → ℕ) (p : Progress)
     (x fronts : List ℤ) : Type 0 where
   pub within : p.count ≤ n
-  pub tight : (p.tight.natural ≤ 4096 * p.count) × (p.tight.count ≤ p.count)
+  pub tight : (p.tight.natural ≤ 1048576 * p.count) × (p.tight.count ≤ p.count)
   pub placed : IsPlacedTo p.count reach gaps spring p.force p.tight.natural p.tight.count x
   pub front : 0 < p.count → AreFrontiers p.count reach (length gaps) x fronts
 

@@ -1,12 +1,13 @@
 ghost use Rattle.std.specs.Prelude.{◌≡◌, ◌+◌, ◌^◌, ◌<◌, ◌≤◌, ℕ, ℤ, pos, ◌≤ℤ◌, IfSome, IfNone, length, slice_index};
 ghost use Rattle.std.specs.Prelude.{slice_index_or};
-ghost use Rattle.lay_springs.specs.Fit.{IsEndOf, Fits, CanStandWithin, LongerFitsLess, Passes, most_columns};
-ghost use Rattle.lay_springs.specs.Place.{reach_at, length_at, HasPlaced};
+ghost use Rattle.lay_springs.specs.Fit.{IsEndOf, EndsAt, Fits, CanStandWithin, IsGreatestForce, LongerFitsLess};
+ghost use Rattle.lay_springs.specs.Fit.{OneForce, most_columns};
+ghost use Rattle.lay_springs.specs.Place.{reach_at, length_at, slack, AreLinear, HasPlaced};
 
 use crate::guesses::{highest, lowered, too_long};
 use crate::least::{larger, place_all, place_to};
 use crate::progress::Progress;
-use crate::traits::{Spaced, Spring};
+use crate::traits::{LinearSpring, Spaced, Spring};
 
 /// Returns the end of a column at `at`.
 pub(crate) fn end_of<C: Spaced>(col: &C, lanes: usize, at: i64) -> i64
@@ -26,9 +27,46 @@ pub(crate) fn end_of<C: Spaced>(col: &C, lanes: usize, at: i64) -> i64
     end
 }
 
+/// Places the columns at a force and returns their end. If their springs are linear, the tight
+/// springs bound how far it can fall with the force.
+pub(crate) fn end_at<C: Spaced + Spring>(
+    cols: &[C],
+    gaps: &[u32],
+    force: u16,
+    at: &mut [i64],
+    front: &mut [i64],
+    placed: &mut Progress,
+) -> i64
+    requires some { 0 < length cols.now }
+    requires few { length cols.now ≤ 2 ^ 26 }
+    requires lanes { length gaps.now < 2 ^ 32 }
+    requires narrow { (lane : ℕ) → lane < length gaps.now → slice_index gaps.now lane ≤ 2 ^ 20 }
+    requires room { length cols.now ≤ length at.old }
+    requires one_each { length front.old ≡ length gaps.now }
+    requires placed { HasPlaced (length cols.now) (reach_at C.reach_of cols.now) gaps.now
+        (length_at C.length_of cols.now) placed.old at.old front.old }
+    ensures placed { HasPlaced (length cols.now) (reach_at C.reach_of cols.now) gaps.now
+        (length_at C.length_of cols.now) placed.new at.new front.new }
+    ensures end { EndsAt (length cols.now) (reach_at C.reach_of cols.now) gaps.now (length_at C.length_of cols.now)
+        force result }
+    ensures begins { pos 0 ≤ℤ result }
+    ensures small { result ≤ℤ pos (2 ^ 49) }
+    ensures few { placed.new.tight.count ≤ 2 ^ 26 }
+    ensures natural { placed.new.tight.natural ≤ 2 ^ 46 }
+    ensures near { AreLinear (length cols.now) (length_at C.length_of cols.now)
+        → (g drop width : ℕ) → g + drop ≡ force
+        → CanStandWithin (length cols.now) (reach_at C.reach_of cols.now) gaps.now (length_at C.length_of cols.now)
+        width g
+        → result ≤ℤ pos (width + slack placed.new.tight.natural placed.new.tight.count drop) }
+{
+    *placed = place_all(cols, gaps, force, at, front, *placed);
+    let last = cols.len() - 1;
+    end_of(&cols[last], gaps.len(), at[last])
+}
+
 /// Returns `None` if the columns end within the width at a force. Otherwise returns a force, at
 /// most the given one, from which on they can't.
-fn too_great<C: Spaced + Spring>(
+fn too_great<C: Spaced + LinearSpring>(
     cols: &[C],
     gaps: &[u32],
     width: u32,
@@ -50,14 +88,12 @@ fn too_great<C: Spaced + Spring>(
     ensures fits { IfNone result
         (Fits (length cols.now) (reach_at C.reach_of cols.now) gaps.now (length_at C.length_of cols.now) width force) }
     ensures below { IfSome result (λ past. past ≤ force) }
-    ensures never { IfSome result (λ past. (g : ℕ) → past ≤ g
+    ensures never { IfSome result (λ past. (g : ℕ) → past ≤ g → g < 2 ^ 16
         → CanStandWithin (length cols.now) (reach_at C.reach_of cols.now) gaps.now (length_at C.length_of cols.now)
         width g
         → ⊥) }
 {
-    *placed = place_all(cols, gaps, force, at, front, *placed);
-    let last = cols.len() - 1;
-    let end = end_of(&cols[last], gaps.len(), at[last]);
+    let end = end_at(cols, gaps, force, at, front, placed);
     if end <= i64::from(width) {
         return None;
     }
@@ -92,7 +128,7 @@ fn head_of<C: Spring>(cols: &[C]) -> usize
 ///
 /// `at` has an entry per column and `front` one per lane. A search for columns that continue others
 /// resumes from the columns that `placed` counts, if it begins at their force. Takes no memory.
-pub fn fit_within<C: Spaced + Spring>(
+pub fn fit_within<C: Spaced + LinearSpring>(
     cols: &[C],
     gaps: &[u32],
     width: u32,
@@ -112,15 +148,8 @@ pub fn fit_within<C: Spaced + Spring>(
         (length_at C.length_of cols.now) placed.old at.old front.old }
     ensures placed { HasPlaced (length cols.now) (reach_at C.reach_of cols.now) gaps.now
         (length_at C.length_of cols.now) placed.new at.new front.new }
-    ensures bound { IfSome result (λ f. f ≤ most) }
-    ensures fits { IfSome result
-        (Fits (length cols.now) (reach_at C.reach_of cols.now) gaps.now (length_at C.length_of cols.now) width) }
-    ensures greatest { IfSome result (λ f. (g : ℕ) → f < g → g ≤ most
-        → CanStandWithin (length cols.now) (reach_at C.reach_of cols.now) gaps.now (length_at C.length_of cols.now)
-        width g
-        → ⊥) }
-    ensures none { IfNone result
-        (Passes (length cols.now) (reach_at C.reach_of cols.now) gaps.now (length_at C.length_of cols.now) width 0) }
+    ensures greatest { IsGreatestForce (length cols.now) (reach_at C.reach_of cols.now) gaps.now
+        (length_at C.length_of cols.now) width most result }
 {
     let mut low = 0;
     let mut high = if 0 < placed.count {
@@ -147,4 +176,10 @@ pub fn fit_within<C: Spaced + Spring>(
 /// nothing.
 pub fn longer_fits_less<C: Spaced + Spring>()
     ensures { LongerFitsLess C.reach_of C.length_of }
+{}
+
+/// A law of `fit` and `fit_within`: columns have only one greatest force up to a bound, or none. So
+/// both give one answer. Does nothing.
+pub fn one_force<C: Spaced + Spring>()
+    ensures { OneForce C.reach_of C.length_of }
 {}

@@ -3,14 +3,14 @@ ghost use Rattle.std.specs.Prelude.{slice_index_or};
 ghost use Rattle.lay_springs.specs.{Fit.CanStandWithin, Place.{reach_at, length_at, slack, IsNearLeast, StandApart}};
 
 use crate::progress::{Progress, TightSprings};
-use crate::traits::{Spaced, Spring};
+use crate::traits::{LinearSpring, Spaced};
 
 /// Given columns that pass a width by `over` at `force`, returns a force from which on only `force`
 /// itself can let them end within it.
 pub(crate) fn lowered(force: u16, over: u64, tight: TightSprings) -> u16
     requires over { over ≤ 2 ^ 49 }
     requires few { tight.count ≤ 2 ^ 26 }
-    requires natural { tight.natural ≤ 2 ^ 38 }
+    requires natural { tight.natural ≤ 2 ^ 46 }
     ensures below { result ≤ force }
     ensures past { (g drop : ℕ)
         → g + drop ≡ force → 0 < drop → result ≤ g → slack tight.natural tight.count drop < over }
@@ -44,17 +44,17 @@ struct Stretch {
 
 /// Extends the placed columns by springs alone. In any list that keeps the columns apart at that
 /// force, the last column is no nearer.
-fn stretched<C: Spaced + Spring>(cols: &[C], at: &[i64], placed: Progress) -> Stretch
+fn stretched<C: Spaced + LinearSpring>(cols: &[C], at: &[i64], placed: Progress) -> Stretch
     requires few { length cols.now ≤ 2 ^ 26 }
     requires room { length cols.now ≤ length at.now }
     requires some { 0 < placed.count }
     requires within { placed.count ≤ length cols.now }
-    requires tight { (placed.tight.natural ≤ 4096 * placed.count) × (placed.tight.count ≤ placed.count) }
+    requires tight { (placed.tight.natural ≤ 1048576 * placed.count) × (placed.tight.count ≤ placed.count) }
     requires begins { pos 0 ≤ℤ slice_index_or at.now (placed.count - 1) (pos 0) }
     requires small { slice_index_or at.now (placed.count - 1) (pos 0) ≤ℤ pos (1048576 + 3145728 * (placed.count - 1)) }
     requires force { placed.force ≤ 2048 }
     ensures few { result.springs.count ≤ 2 ^ 26 }
-    ensures natural { result.springs.natural ≤ 2 ^ 38 }
+    ensures natural { result.springs.natural ≤ 2 ^ 46 }
     ensures small { (pos 0 ≤ℤ result.end) × (result.end ≤ℤ pos (2 ^ 48)) }
     ensures near { (gaps : List ℕ)
         → IsNearLeast placed.count (reach_at C.reach_of cols.now) gaps (length_at C.length_of cols.now) placed.force
@@ -78,7 +78,7 @@ fn stretched<C: Spaced + Spring>(cols: &[C], at: &[i64], placed: Progress) -> St
 /// Returns a force from which on, up to that of the placed columns, the placed columns and the
 /// springs after them pass the width. If they don't pass it, returns one more than the force of the
 /// placed columns.
-pub(crate) fn too_long<C: Spaced + Spring>(
+pub(crate) fn too_long<C: Spaced + LinearSpring>(
     cols: &[C],
     width: u32,
     at: &[i64],
@@ -88,7 +88,7 @@ pub(crate) fn too_long<C: Spaced + Spring>(
     requires room { length cols.now ≤ length at.now }
     requires some { 0 < placed.count }
     requires within { placed.count ≤ length cols.now }
-    requires tight { (placed.tight.natural ≤ 4096 * placed.count) × (placed.tight.count ≤ placed.count) }
+    requires tight { (placed.tight.natural ≤ 1048576 * placed.count) × (placed.tight.count ≤ placed.count) }
     requires begins { pos 0 ≤ℤ slice_index_or at.now (placed.count - 1) (pos 0) }
     requires small { slice_index_or at.now (placed.count - 1) (pos 0) ≤ℤ pos (1048576 + 3145728 * (placed.count - 1)) }
     requires force { placed.force ≤ 2048 }

@@ -1,8 +1,8 @@
 ghost use Rattle.std.specs.Prelude.{◌≡◌, ◌+◌, ◌*◌, ◌≢◌, ◌⊎◌, ◌^◌, ◌<◌, ◌≤◌, ℕ, ℤ, pos, negsuc, ◌+ℤ◌, ◌≤ℤ◌, IfOk};
 ghost use Rattle.std.specs.Prelude.{IfSome, length, take, slice_index, slice_index_or, slice_set};
 ghost use Rattle.lay_springs.specs.ReachView.{reach_in};
-ghost use Rattle.lay_springs.specs.Place.{reach_at, length_at, IsPlace, IsPlacedTo, IsNearLeast, AreFrontiers};
-ghost use Rattle.lay_springs.specs.Place.{HasPlaced, IsPast, IsFirst, IsSomewhere, Advances, IsInside};
+ghost use Rattle.lay_springs.specs.Place.{reach_at, length_at, AreLinear, IsPlace, IsPlacedTo, IsNearLeast};
+ghost use Rattle.lay_springs.specs.Place.{AreFrontiers, HasPlaced, IsPast, IsFirst, IsSomewhere, Advances, IsInside};
 
 use crate::progress::{Progress, TightSprings};
 use crate::traits::{LaneReach, Reach, ReachView, Spaced, Spring, reach_in};
@@ -251,9 +251,10 @@ pub(crate) fn place_all<C: Spaced + Spring>(
     requires placed { HasPlaced (length cols.now) (reach_at C.reach_of cols.now) gaps.now
         (length_at C.length_of cols.now) placed at.old front.old }
     ensures few { result.tight.count ≤ 2 ^ 26 }
-    ensures natural { result.tight.natural ≤ 2 ^ 38 }
-    ensures near { IsNearLeast (length cols.now) (reach_at C.reach_of cols.now) gaps.now
-        (length_at C.length_of cols.now) force result.tight.natural result.tight.count at.new }
+    ensures natural { result.tight.natural ≤ 2 ^ 46 }
+    ensures near { AreLinear (length cols.now) (length_at C.length_of cols.now)
+        → IsNearLeast (length cols.now) (reach_at C.reach_of cols.now) gaps.now (length_at C.length_of cols.now) force
+        result.tight.natural result.tight.count at.new }
     ensures placed { HasPlaced (length cols.now) (reach_at C.reach_of cols.now) gaps.now
         (length_at C.length_of cols.now) result at.new front.new }
     ensures place { IsPlace (length cols.now) (reach_at C.reach_of cols.now) gaps.now
@@ -318,11 +319,11 @@ fn place_next<C: Spaced + Spring>(
     requires one_each { length front.old ≡ length gaps.now }
     requires past { 0 < j }
     requires inside { j < length cols.now }
-    requires tight { (tight.natural ≤ 4096 * j) × (tight.count ≤ j) }
+    requires tight { (tight.natural ≤ 1048576 * j) × (tight.count ≤ j) }
     requires placed { IsPlacedTo j (reach_at C.reach_of cols.now) gaps.now (length_at C.length_of cols.now) force
         tight.natural tight.count at.old }
     requires fronts { AreFrontiers j (reach_at C.reach_of cols.now) (length gaps.now) at.old front.old }
-    ensures tight { (result.natural ≤ 4096 * (j + 1)) × (result.count ≤ j + 1) }
+    ensures tight { (result.natural ≤ 1048576 * (j + 1)) × (result.count ≤ j + 1) }
     ensures placed { IsPlacedTo (j + 1) (reach_at C.reach_of cols.now) gaps.now (length_at C.length_of cols.now) force
         result.natural result.count at.new }
     ensures fronts { AreFrontiers (j + 1) (reach_at C.reach_of cols.now) (length gaps.now) at.new front.new }
@@ -339,7 +340,7 @@ fn place_next<C: Spaced + Spring>(
 /// column.
 fn tightened(tight: TightSprings, before: i64, spring: u32, natural: u32, next: i64) -> TightSprings
     requires few { tight.count < 2 ^ 26 }
-    requires short { tight.natural ≤ 2 ^ 38 }
+    requires short { tight.natural ≤ 2 ^ 46 }
     requires begins { pos 0 ≤ℤ before }
     requires small { before ≤ℤ pos (2 ^ 60) }
     ensures { (((before +ℤ pos spring) ≡ next)

@@ -7,13 +7,17 @@
 
 pub mod forces;
 mod guesses;
+pub mod halves;
 pub mod least;
 pub mod margin;
 pub mod progress;
 pub mod traits;
 
-pub use forces::{fit_within, longer_fits_less, most_columns};
+pub use forces::{fit_within, longer_fits_less, most_columns, one_force};
+pub use halves::fit;
 pub use least::place;
 pub use margin::{Placed, justify};
 pub use progress::Progress;
-pub use traits::{LaneReach, MOST_REACH, Reach, ReachView, Spaced, Spring, cut_reach, reach_in};
+pub use traits::{
+    LaneReach, LinearSpring, MOST_REACH, Reach, ReachView, Spaced, Spring, cut_reach, reach_in,
+};

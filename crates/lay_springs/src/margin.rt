@@ -1,13 +1,14 @@
-ghost use Rattle.std.specs.Prelude.{◌≡◌, ◌+◌, ◌*◌, ◌^◌, ◌<◌, ◌≤◌, ◌-◌, ◌/◌, ℕ, ℤ, pos, ◌+ℤ◌, ◌≤ℤ◌, true, false, length};
+ghost use Rattle.std.specs.Prelude.{◌≡◌, ◌+◌, ◌*◌, ◌^◌, ◌<◌, ◌≤◌, ◌-◌, ◌/◌, ℕ, ℤ, pos, ◌+ℤ◌, ◌≤ℤ◌, IfOk, length};
 ghost use Rattle.std.specs.Prelude.{slice_index, slice_index_or};
-ghost use Rattle.lay_springs.specs.Fit.{IsEndOf, Fits, IsSet, is_ragged, counted};
-ghost use Rattle.lay_springs.specs.Place.{reach_at, length_at, IsPlace, HasPlaced, StandApart};
+ghost use Rattle.lay_springs.specs.{Fit.{IsEndOf, Fits, IsSet}, Justified.IsJustifiedAt};
+ghost use Rattle.lay_springs.specs.Place.{reach_at, length_at, StandApart};
 
 use crate::forces::end_of;
 use crate::least::place_all;
 use crate::progress::Progress;
 use crate::traits::{Spaced, Spring};
-use mus_units::Row;
+use mus_units::{Memory, Row};
+use std::alloc::Global;
 
 /// The abscissas of columns, in u, and the force that counts. A ragged system ends where its force
 /// leaves it.
@@ -68,7 +69,6 @@ fn set<C: Spaced + Spring>(
     force: u16,
     at: &mut [i64],
     front: &mut [i64],
-    placed: Progress,
 )
     requires some { 0 < length cols.now }
     requires few { length cols.now ≤ 2 ^ 26 }
@@ -76,8 +76,6 @@ fn set<C: Spaced + Spring>(
     requires narrow { (lane : ℕ) → lane < length gaps.now → slice_index gaps.now lane ≤ 2 ^ 20 }
     requires room { length at.old ≡ length cols.now }
     requires one_each { length front.old ≡ length gaps.now }
-    requires placed { HasPlaced (length cols.now) (reach_at C.reach_of cols.now) gaps.now
-        (length_at C.length_of cols.now) placed at.old front.old }
     requires fits { Fits (length cols.now) (reach_at C.reach_of cols.now) gaps.now (length_at C.length_of cols.now)
         width force }
     ensures set { IsSet (length cols.now) (reach_at C.reach_of cols.now) gaps.now (length_at C.length_of cols.now) width
@@ -85,7 +83,7 @@ fn set<C: Spaced + Spring>(
     ensures apart { StandApart (length cols.now) (reach_at C.reach_of cols.now) gaps.now
         (length_at C.length_of cols.now force) at.new }
 {
-    place_all(cols, gaps, force, at, front, placed);
+    place_all(cols, gaps, force, at, front, Progress::none());
     if cols.len() == 1 {
         return;
     }
@@ -96,53 +94,37 @@ fn set<C: Spaced + Spring>(
 /// Sets the columns to the width, at a force at which they end within it: column k of n moves right
 /// by `rest * k / (n - 1)`, where `rest` is what the width leaves past the end. A last system at a
 /// force of 256 or more is ragged and stays as placed at 256.
-///
-/// `at` has an entry per column and `front` one per lane. Columns that `placed` counts at the force
-/// that counts aren't placed again. Takes no memory.
 pub fn justify<C: Spaced + Spring>(
+    alloc: Global,
     cols: &[C],
     gaps: &[u32],
     width: u32,
     force: u16,
     last: bool,
-    at: Vec<i64>,
-    front: &mut [i64],
-    placed: Progress,
-) -> Placed
+) -> Result<Placed, Memory>
     requires some { 0 < length cols.now }
     requires few { length cols.now ≤ 2 ^ 26 }
     requires lanes { length gaps.now < 2 ^ 32 }
     requires narrow { (lane : ℕ) → lane < length gaps.now → slice_index gaps.now lane ≤ 2 ^ 20 }
-    requires room { length at.items ≡ length cols.now }
-    requires one_each { length front.old ≡ length gaps.now }
-    requires placed { HasPlaced (length cols.now) (reach_at C.reach_of cols.now) gaps.now
-        (length_at C.length_of cols.now) placed at.items front.old }
     requires fits { Fits (length cols.now) (reach_at C.reach_of cols.now) gaps.now (length_at C.length_of cols.now)
         width force }
-    ensures ragged { result.ragged ≡ is_ragged last force }
-    ensures force { result.force ≡ counted last force }
-    ensures loose { result.ragged ≡ true
-        → IsPlace (length cols.now) (reach_at C.reach_of cols.now) gaps.now
-        (length_at C.length_of cols.now result.force) result.at }
-    ensures set { result.ragged ≡ false
-        → IsSet (length cols.now) (reach_at C.reach_of cols.now) gaps.now (length_at C.length_of cols.now) width
-        result.force result.at }
-    ensures apart { StandApart (length cols.now) (reach_at C.reach_of cols.now) gaps.now
-        (length_at C.length_of cols.now result.force) result.at }
+    ensures { IfOk result (IsJustifiedAt (length cols.now) (reach_at C.reach_of cols.now) gaps.now
+        (length_at C.length_of cols.now) width last force) }
 {
-    let mut at = at;
+    let mut at = vec![in alloc; 0; cols.len()]?;
+    let mut front = vec![in alloc; 0; gaps.len()]?;
     if last && force >= 256 {
-        place_all(cols, gaps, 256, &mut at, front, placed);
-        return Placed {
+        place_all(cols, gaps, 256, &mut at, &mut front, Progress::none());
+        return Ok(Placed {
             force: 256,
             ragged: true,
             at: Row { items: at },
-        };
+        });
     }
-    set(cols, gaps, width, force, &mut at, front, placed);
-    Placed {
+    set(cols, gaps, width, force, &mut at, &mut front);
+    Ok(Placed {
         force,
         ragged: false,
         at: Row { items: at },
-    }
+    })
 }

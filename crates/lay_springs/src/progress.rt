@@ -1,7 +1,7 @@
 ghost use Rattle.std.specs.Prelude.{ℕ, ℤ, Option, List};
 
-/// The tight springs, those that alone hold neighbors apart: the sum of their natural lengths, and
-/// their number.
+/// The tight springs, those that alone hold neighbors apart: the sum of their natural lengths, those
+/// at force 256, and their number.
 #[derive(Clone, Copy)]
 pub(crate) struct TightSprings {
     pub(crate) natural: u64,

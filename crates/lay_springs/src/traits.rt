@@ -78,14 +78,23 @@ pub trait Spring {
     // the length at a force
     ghost length_of: { Self → ℕ → ℕ };
 
-    /// Returns the length of the spring at a force, in u. At force 256 it is the natural length.
-    /// Takes no memory.
+    /// Returns the length of the spring at a force, in u. Takes no memory.
     fn length(&self, force: u16) -> u32
         ensures { result ≡ length_of self.now force };
 
-    // the natural length is at most 2^12
-    ghost is_short: { (c : Self) → length_of c 256 ≤ 2 ^ 12 };
+    // the length doesn't fall as the force rises
+    ghost rises: { (c : Self) (f g : ℕ) → f ≤ g → g < 2 ^ 16 → length_of c f ≤ length_of c g };
 
+    // it is at most 2^20
+    ghost is_short: { (c : Self) (f : ℕ) → f < 2 ^ 16 → length_of c f ≤ 2 ^ 20 };
+
+    // at force 0 it is 0
+    ghost is_slack: { (c : Self) → length_of c 0 ≡ 0 };
+}
+
+/// A column whose spring has a length in proportion to the force, rounded down. The natural length,
+/// the one at force 256, is at most 2^12, as none passes 2^20.
+pub trait LinearSpring: Spring {
     // the length is this part of the natural one
-    ghost scales: { (c : Self) (f : ℕ) → length_of c f ≡ length_of c 256 * f / 256 };
+    ghost scales: { (c : Self) (f : ℕ) → Self.length_of c f ≡ Self.length_of c 256 * f / 256 };
 }

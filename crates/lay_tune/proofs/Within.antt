@@ -18,7 +18,8 @@ use Rattle.mus_marks.proofs.Inside.{bars_inside, head_inside}
 use Rattle.mus_marks.proofs.OneList.{same_keys}
 use Rattle.lay_springs.specs.declared.traits.Reach.{Reach}
 use Rattle.lay_springs.specs.declared.margin.Placed.{Placed}
-use Rattle.lay_springs.specs.Fit.{Fits, IsEndOf, IsSet, counted, is_ragged}
+use Rattle.lay_springs.specs.Fit.{Fits, IsEndOf, IsSet, counted}
+use Rattle.lay_springs.specs.Justified.{IsJustifiedAt}
 use Rattle.lay_springs.specs.Place.{IsPlace, StandApart, length_at, reach_at}
 use Rattle.lay_springs.proofs.Ends.{apart_down, length_rises as lengths_rise}
 use Rattle.lay_springs.proofs.Longer.{rises}
@@ -153,33 +154,20 @@ justified_count gaps width last columns p h = by p.ragged refl
 -- ---- columns in another type
 pub justified_seen : {D : Type 0} (f : D → Column) (gaps : List ℕ) (width : ℕ) (last : Bool) (seen : List D) (force : ℕ)
     (p : Placed)
-    → IsForceOf gaps width (map f seen) force → p.ragged ≡ is_ragged last force → p.force ≡ counted last force
-    → (p.ragged ≡ true
-    → IsPlace (length seen) (reach_at (λ s lane. column_reach (f s) lane) seen) gaps
-    (length_at (λ s force. column_length (f s) force) seen p.force) p.at)
-    → (p.ragged ≡ false
-    → IsSet (length seen) (reach_at (λ s lane. column_reach (f s) lane) seen) gaps
-    (length_at (λ s force. column_length (f s) force) seen) width p.force p.at)
-    → StandApart (length seen) (reach_at (λ s lane. column_reach (f s) lane) seen) gaps
-    (length_at (λ s force. column_length (f s) force) seen p.force) p.at
+    → IsForceOf gaps width (map f seen) force
+    → IsJustifiedAt (length seen) (reach_at (λ s lane. column_reach (f s) lane) seen) gaps
+    (length_at (λ s force. column_length (f s) force) seen) width last force p
     → IsJustified gaps width last (map f seen) p
-justified_seen f gaps width last seen force p pressed ragged counted loose set apart = record {
-  pressed = (force, pressed, counted, ragged);
-  loose =
-      λ is.
-      subst (λ T. T)
-      (seen_as f column_reach column_length (λ n r l. IsPlace n r gaps (l p.force) p.at) seen (map f seen) refl)
-      (loose is);
-  set =
-      λ is.
-      subst (λ T. T)
-      (seen_as f column_reach column_length (λ n r l. IsSet n r gaps l width p.force p.at) seen (map f seen) refl)
-      (set is);
-  apart =
-      subst (λ T. T)
-      (seen_as f column_reach column_length (λ n r l. StandApart n r gaps (l p.force) p.at) seen (map f seen) refl)
-      apart;
-}
+justified_seen f gaps width last seen force p pressed set =
+    let at = subst (λ T. T)
+    (seen_as f column_reach column_length (λ n r l. IsJustifiedAt n r gaps l width last force p) seen (map f seen) refl)
+    set in
+    record {
+      pressed = (force, pressed, at.counted_is, at.ragged);
+      loose = at.loose;
+      set = at.set;
+      apart = at.apart;
+    }
 
 -- ---- the columns of a system
 pub system_count : (s : Score) (m : SystemMarks) → length (system_columns s m) ≡ length m.keys

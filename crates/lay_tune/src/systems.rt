@@ -10,7 +10,7 @@ use lay_pages::{Heights, stack};
 use lay_reaches::Column;
 use lay_rows::Rows;
 use lay_spans::{BorrowedColumn, BorrowedColumns, columns_in};
-use lay_springs::{Placed, Progress, justify};
+use lay_springs::{Placed, justify};
 use mus_drawn::DrawnVoice;
 use mus_laid::SystemMarks;
 use mus_marks::tilt_of;
@@ -45,19 +45,7 @@ fn press(
     requires fits { HaveForce gaps.now width force (map (λ s. s.column.now) columns.now) }
     ensures { IfOk result (IsJustified gaps.now width last (map (λ s. s.column.now) columns.now)) }
 {
-    let at = vec![in alloc; 0; columns.len()]?;
-    let mut ends = vec![in alloc; 0; gaps.len()]?;
-    let front = ends.as_mut_slice();
-    Ok(justify(
-        columns,
-        gaps,
-        width,
-        force,
-        last,
-        at,
-        front,
-        Progress::none(),
-    ))
+    justify(alloc, columns, gaps, width, force, last)
 }
 
 /// Returns the keys of columns.

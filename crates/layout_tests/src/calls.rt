@@ -1,10 +1,10 @@
 //! The calls that a case may name.
 //!
-//! Layout: `place`, `fit`, `within`, `set` and `last` on plain columns, `badness F`, `least` on a table of costs,
-//! `check` on a listing. Pages: `stack`, `fill H` and `even H`; `glyphs`; `glyph`, `words`, `stem`, `beam` and `arc`
-//! with a mark's numbers, `read Y` on lines of marks; `document`, `steps` and `whole`, `pages` and `page`, `hear W` and
-//! `hear W PLACE`. The program: `commands`, `make N`. Streams: `source`, `sink`, `streams`. Rows that wait for each
-//! other: `meetings`.
+//! Layout: `place`, `fit`, `within`, `set` and `last` on plain columns, `stopped` on columns whose springs stop at a
+//! length, `badness F`, `least` on a table of costs, `check` on a listing. Pages: `stack`, `fill H` and `even H`;
+//! `glyphs`; `glyph`, `words`, `stem`, `beam` and `arc` with a mark's numbers, `read Y` on lines of marks; `document`,
+//! `steps` and `whole`, `pages` and `page`, `hear W` and `hear W PLACE`. The program: `commands`, `make N`. Streams:
+//! `source`, `sink`, `streams`. Rows that wait for each other: `meetings`.
 
 ghost use Rattle.std.specs.Thread.{IsSync};
 
@@ -16,7 +16,7 @@ use crate::hearing::put_hearing;
 use crate::listings::put_verdicts;
 use crate::meetings::put_meetings;
 use crate::ops::{put_mark, put_read, put_words};
-use crate::plain::{put_badness, put_plain};
+use crate::plain::{put_badness, put_plain, put_stopped};
 use crate::streams::{put_sink, put_source, put_streams};
 use crate::table::put_least;
 use case_texts::{Answers, Case, CaseError, Mistake, Report, number_of};
@@ -50,6 +50,7 @@ fn put_layout_call(out: &mut Report, case: Case<'_>) -> Result<(), CaseError> {
         "fill" => put_fill(out, case.word, case.input),
         "even" => put_even(out, case.word, case.input),
         "place" | "fit" | "within" | "set" | "last" => put_plain(out, case),
+        "stopped" => put_stopped(out, case),
         _ => Err(CaseError::Wrong(Mistake::UnknownCall)),
     }
 }

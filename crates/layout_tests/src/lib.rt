@@ -13,6 +13,7 @@ mod listings;
 mod meetings;
 mod ops;
 mod plain;
+mod stopped;
 mod streams;
 mod table;
 

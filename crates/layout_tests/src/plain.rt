@@ -2,10 +2,11 @@
 
 ghost use Rattle.std.specs.Prelude.{◌≤◌, ◌<◌, length};
 
+use crate::stopped::StoppedColumn;
 use case_texts::{Case, CaseError, Mistake, Report, count_at, number_at, numbers_of, put_placed};
 use lay_reaches::Column;
 use lay_rows::badness;
-use lay_springs::{Progress, Reach, fit_within, justify, place};
+use lay_springs::{Progress, Reach, Spaced, Spring, fit, fit_within, justify, place};
 use mus_onsets::{Class, ColumnKey};
 use mus_units::Row;
 use std::alloc::Global;
@@ -69,31 +70,68 @@ fn put_places(out: &mut Report, columns: &[Column], force: u16) -> Result<(), Ca
     out.end_line()
 }
 
-/// Adds the greatest force of 0 to `most` at which columns end within a width; or the columns set to the width,
-/// given whether they are the last.
-fn put_fit(
-    out: &mut Report,
-    columns: &[Column],
-    width: u32,
-    most: u32,
-    last: Option<bool>,
-) -> Result<(), CaseError>
+/// Adds the greatest force at which columns end within a width.
+fn put_fit(out: &mut Report, columns: &[Column], width: u32) -> Result<(), CaseError>
+    requires some { 0 < length columns.now }
+    requires few { length columns.now ≤ 200000 }
+{
+    let mut scratch = vec![in out.alloc; 0i64; columns.len() + GAPS.len()]?;
+    put_force(out, fit(columns, &GAPS, width, &mut scratch))
+}
+
+/// Adds the greatest force of 0 to `most` at which columns end within a width.
+fn put_within(out: &mut Report, columns: &[Column], width: u32, most: u32) -> Result<(), CaseError>
     requires some { 0 < length columns.now }
     requires few { length columns.now ≤ 200000 }
 {
     let most = u16::try_from(most).unwrap_or(0).min(2048);
     let mut at = vec![in out.alloc; 0i64; columns.len()]?;
-    let prefix = &mut [0i64; 2];
+    let front = &mut [0i64; 2];
     let mut placed = Progress::none();
-    let found = fit_within(columns, &GAPS, width, most, &mut at, prefix, &mut placed);
-    let Some(last) = last else {
-        return put_force(out, found);
-    };
-    let Some(force) = found else {
+    let force = fit_within(columns, &GAPS, width, most, &mut at, front, &mut placed);
+    put_force(out, force)
+}
+
+/// Adds columns set to a width.
+fn put_set<C: Spaced + Spring>(
+    out: &mut Report,
+    columns: &[C],
+    width: u32,
+    last: bool,
+) -> Result<(), CaseError>
+    requires some { 0 < length columns.now }
+    requires few { length columns.now ≤ 200000 }
+{
+    let mut scratch = vec![in out.alloc; 0i64; columns.len() + GAPS.len()]?;
+    let Some(force) = fit(columns, &GAPS, width, &mut scratch) else {
         return put_force(out, None);
     };
-    let set = justify(columns, &GAPS, width, force, last, at, prefix, placed);
-    put_placed(out, &set)
+    put_placed(
+        out,
+        &justify(out.alloc, columns, &GAPS, width, force, last)?,
+    )
+}
+
+/// Returns a column by its line, with the length at which its spring stops as a fifth number.
+fn stopped_column_of(alloc: Global, line: &str) -> Result<StoppedColumn, CaseError> {
+    let numbers = numbers_of(alloc, line)?;
+    Ok(StoppedColumn {
+        column: column_of(alloc, line)?,
+        longest: count_at(&numbers, 4)?,
+    })
+}
+
+/// Adds columns whose springs stop at a length, set to a width.
+pub(crate) fn put_stopped(out: &mut Report, case: Case<'_>) -> Result<(), CaseError> {
+    let width = count_at(&numbers_of(out.alloc, case.word)?, 0)?;
+    let mut columns = Row::new(out.alloc);
+    for line in case.input.lines() {
+        columns.push(stopped_column_of(out.alloc, line)?)?;
+    }
+    if columns.len() == 0 || columns.len() > 1000 {
+        return out.next(b"no columns\n");
+    }
+    put_set(out, columns.as_slice(), width, false)
 }
 
 /// Adds the value of a call on plain columns: `place F`, `fit W`, `within W M` with the greatest force that may be
@@ -104,7 +142,7 @@ pub(crate) fn put_plain(out: &mut Report, case: Case<'_>) -> Result<(), CaseErro
     let second = if case.call == "within" {
         count_at(&numbers, 1)?
     } else {
-        2048
+        0
     };
     let columns = columns_of(out.alloc, case.input)?;
     if columns.len() == 0 || columns.len() > 1000 {
@@ -125,9 +163,10 @@ fn put_of_columns(
 {
     match call {
         "place" => put_places(out, columns, force_of(first)?),
-        "fit" | "within" => put_fit(out, columns, first, second, None),
-        "set" => put_fit(out, columns, first, 2048, Some(false)),
-        _ => put_fit(out, columns, first, 2048, Some(true)),
+        "fit" => put_fit(out, columns, first),
+        "within" => put_within(out, columns, first, second),
+        "set" => put_set(out, columns, first, false),
+        _ => put_set(out, columns, first, true),
     }
 }
 

@@ -15,4 +15,13 @@ pub returns-clause-none : goal.returns-clause-none
 returns-clause-none g c =
     passes_never g.C.Spaced.reach_of g.C.Spring.length_of c.args.gaps.now c.args.width c.args.cols.now
     c.fit_within.result c.requires.some
-    c.fit_within.ensures.none
+    c.fit_within.ensures.greatest.none
+
+pub returns-clause-bound : goal.returns-clause-bound
+returns-clause-bound g c = c.fit_within.ensures.greatest.bound
+
+pub returns-clause-fits : goal.returns-clause-fits
+returns-clause-fits g c = c.fit_within.ensures.greatest.fits
+
+pub returns-clause-greatest : goal.returns-clause-greatest
+returns-clause-greatest g c = c.fit_within.ensures.greatest.greatest

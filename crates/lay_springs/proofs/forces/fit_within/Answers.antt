@@ -1,11 +1,26 @@
-use Rattle.std.proofs.{Common.{◌-◌, length, arith, inl, inr}, lemmas.Bool.cases_lt}
-use Rattle.lay_springs.specs.Place.{reach_at, length_at}
+use Rattle.std.proofs.{Common.{◌≡◌, ◌+◌, ◌-◌, arith, inl, inr}, lemmas.Bool.cases_lt}
 use Rattle.lay_springs.proofs.Longer.{stands}
-use Rattle.lay_springs.proofs.Ends.{lengths_short}
-use Rattle.lay_springs.proofs.Made.{fits_or_passes}
-use Rattle.lay_springs.proofs.Placing.{near_at}
+use Rattle.lay_springs.proofs.Ends.{lengths_scale}
+use Rattle.lay_springs.proofs.Made.{passes_at_none}
 use Rattle.lay_springs.proofs.forces.fit_within.Goals.{then-placed-gt0, else-placed-gt0}
 use Rattle.lay_springs.proofs.forces.fit_within.Goals as goal
+
+pub loop-low-preserved-in-None : goal.loop-low-preserved-in-None
+loop-low-preserved-in-None g c =
+    let i = c.loop-low.invariant in
+    let tried = c.highest-force.ensures in
+    let half = c.div_ceil-half.ensures in record {
+      between = let h = tried.high in omega arith;
+      within = i.within;
+      few = let a = tried.above in omega arith;
+      short = let s = i.short in omega arith;
+      room = let r = i.room in let a = c.too_great.auto.at in omega arith;
+      one_each = let o = i.one_each in let a = c.too_great.auto.front in omega arith;
+      placed = c.too_great.ensures.placed;
+      fits = λ _. let e : c.highest-force.result + 1 - 1 ≡ c.highest-force.result = omega arith in
+          rw e c.in-None.ensures.fits;
+      never = i.never;
+    }
 
 pub loop-low-preserved : goal.loop-low-preserved
 loop-low-preserved g c =
@@ -13,7 +28,7 @@ loop-low-preserved g c =
     let half = c.div_ceil-half.ensures in record {
       between = elim (cases_lt c.in-Some.past c.loop-low.low) [
         | inl under ↦
-            absurd (c.in-Some.ensures.never (c.loop-low.low - 1) (omega arith)
+            absurd (c.in-Some.ensures.never (c.loop-low.low - 1) (omega arith) (omega arith)
             (stands _ _ _ _ _ _ (i.fits (omega arith))))
         | inr above ↦ above
       ];
@@ -24,32 +39,34 @@ loop-low-preserved g c =
       one_each = let o = i.one_each in let a = c.too_great.auto.front in omega arith;
       placed = c.too_great.ensures.placed;
       fits = i.fits;
-      never = λ f from _ stood. c.in-Some.ensures.never f from stood;
+      never = λ f from within stood.
+          c.in-Some.ensures.never f from (let most = c.requires.most in omega arith) stood;
     }
 
 pub returns-else-low-eq0-clause-greatest : goal.returns-else-low-eq0-clause-greatest
-returns-else-low-eq0-clause-greatest g c = λ f past within stood.
-    c.loop-low.invariant.never f (let done = c.loop-low-test.false in let some = c.if-low-eq0.false in omega arith)
-    within stood
+returns-else-low-eq0-clause-greatest g c =
+    let i = c.loop-low.invariant in
+    let done = c.loop-low-test.false in
+    let some = c.if-low-eq0.false in record {
+      bound = let within = i.within in let between = i.between in omega arith;
+      fits = i.fits (omega arith);
+      greatest = λ f past within stood. i.never f (omega arith) within stood;
+      none = tt;
+    }
 
-pub returns-then-low-eq0-clause-none : goal.returns-then-low-eq0-clause-none
-returns-then-low-eq0-clause-none g c =
-    let len = length_at g.C.Spring.length_of c.args.cols.now in
-    elim (fits_or_passes (length c.args.cols.now) (reach_at g.C.Spaced.reach_of c.args.cols.now) c.args.gaps.now len
-    c.args.width 0 c.requires.some
-    (λ k lane l.
-    near_at g.C.Spaced.reach_of c.args.cols.now _ lane
-    (λ col. g.met.C.Spaced.is_near col lane (let few = c.requires.lanes in omega arith)) k)
-    c.requires.narrow
-    (λ i.
-    lengths_short g.C.Spring.length_of c.args.cols.now 0 i g.met.C.Spring.is_short (λ col. g.met.C.Spring.scales col 0)
-    (omega arith))) [
-      | inl fits ↦
-          absurd (c.loop-low.invariant.never 0
-          (let done = c.loop-low-test.false in let none = c.if-low-eq0.true in omega arith) (omega arith)
-          (stands _ _ _ _ _ _ fits))
-      | inr passes ↦ passes
-    ]
+pub returns-then-low-eq0-clause-greatest : goal.returns-then-low-eq0-clause-greatest
+returns-then-low-eq0-clause-greatest g c = record {
+  bound = tt;
+  fits = tt;
+  greatest = tt;
+  none =
+      passes_at_none g.C.Spaced.reach_of g.C.Spring.length_of c.args.cols.now c.args.gaps.now c.args.width
+      c.requires.some
+      (λ col lane l. g.met.C.Spaced.is_near col lane (let few = c.requires.lanes in omega arith)) c.requires.narrow
+      (λ col. g.met.C.Spring.is_short col 0 (omega arith))
+      (c.loop-low.invariant.never 0
+      (let done = c.loop-low-test.false in let none = c.if-low-eq0.true in omega arith) (omega arith));
+}
 
 pub loop-low-init : goal.loop-low-init
 loop-low-init g c =
@@ -80,6 +97,10 @@ loop-low-init g c =
             room = let r = c.requires.room in let a = w.place_to.auto.at in omega arith;
             one_each = let o = c.requires.one_each in let a = w.place_to.auto.front in omega arith;
             fits = λ some. absurd (omega arith);
-            never = λ f from within stood. e.never c.args.gaps.now placed.placed.near f from (omega arith) stood;
+            never = λ f from within stood.
+                e.never c.args.gaps.now
+                (placed.placed.near (lengths_scale g.C.Spring.length_of c.args.cols.now w.place_to.result.count
+                g.met.C.LinearSpring.scales))
+                f from (omega arith) stood;
           })
     ]

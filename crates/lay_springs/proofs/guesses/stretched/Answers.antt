@@ -4,7 +4,6 @@ use Rattle.std.proofs.lemmas.Option.{slice_get_read}
 use Rattle.lay_springs.specs.Place.{length_at}
 use Rattle.lay_springs.proofs.Placing.{length_is}
 use Rattle.lay_springs.proofs.Near.{slack_more}
-use Rattle.lay_springs.proofs.Ends.{spring_short}
 use Rattle.lay_springs.proofs.Longer.{fewer_apart}
 use Rattle.lay_springs.proofs.guesses.stretched.Goals as goal
 
@@ -31,7 +30,7 @@ loop-j-preserved g c =
     λ f. length_is g.C.Spring.length_of c.args.cols.now f c.loop-j.j c.index-cols-j-in-loop-j.result
     (slice_get_read c.args.cols.now (length c.args.cols.now) c.loop-j.j c.index-cols-j-in-loop-j.result refl
     (omega arith) c.index-cols-j-in-loop-j.is)
-    ∙ (g.met.C.Spring.scales c.index-cols-j-in-loop-j.result f
+    ∙ (g.met.C.LinearSpring.scales c.index-cols-j-in-loop-j.result f
     ∙ ap (λ n. n * f / 256) (sym c.length-in-loop-j.ensures)) in
     let here : c.length.result ≡ one * c.args.placed.force / 256 =
     c.length.ensures
@@ -39,11 +38,11 @@ loop-j-preserved g c =
     (slice_get_read c.args.cols.now (length c.args.cols.now) c.loop-j.j c.index-cols-j.result refl (omega arith)
     c.index-cols-j.is))
     ∙ spring c.args.placed.force in
-    let short = spring_short _ c.args.placed.force _ c.length.result (g.met.C.Spring.is_short c.index-cols-j.result)
-    (g.met.C.Spring.scales c.index-cols-j.result c.args.placed.force) (let force = c.requires.force in omega arith)
-    c.length.ensures in
-    let natural : one ≤ 4096 =
-    rw c.length-in-loop-j.ensures (g.met.C.Spring.is_short c.index-cols-j-in-loop-j.result) in
+    let short : c.length.result ≤ 1048576 =
+    rw c.length.ensures (g.met.C.Spring.is_short c.index-cols-j.result c.args.placed.force
+    (let force = c.requires.force in omega arith)) in
+    let natural : one ≤ 1048576 =
+    rw c.length-in-loop-j.ensures (g.met.C.Spring.is_short c.index-cols-j-in-loop-j.result 256 (omega arith)) in
     let first = c.from-end.ensures in
     let second = c.from.ensures in
     let begins = i.begins in let small = i.small in

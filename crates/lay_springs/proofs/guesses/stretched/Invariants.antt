@@ -6,7 +6,7 @@ abbrev pub invariant-loop-j : goal.invariant-loop-j
 invariant-loop-j g l = record {
   begins : pos 0 ≤ℤ l.end;
   small : l.end ≤ℤ pos (1048576 + 3145728 * l.j);
-  natural : l.springs.natural ≤ 4096 * (l.j + 1);
+  natural : l.springs.natural ≤ 1048576 * (l.j + 1);
   count : l.springs.count ≤ l.j + 1;
   near : (gaps : List ℕ)
       → IsNearLeast l.placed.count (reach_at g.C.Spaced.reach_of l.cols) gaps (length_at g.C.Spring.length_of l.cols)

@@ -3,10 +3,9 @@ use Rattle.std.proofs.Common.{sym, inl, inr, ◌∙◌, slice_index_or, slice_se
 use Rattle.std.proofs.Common.{get_or-set_same, get_or-set_other}
 use Rattle.std.proofs.lemmas.Int.{ints, to_z-of_z}
 use Rattle.std.proofs.lemmas.Option.{slice_get_read}
-use Rattle.lay_springs.specs.Place.{length_at, reach_at, slack, IsPast, StandApart}
+use Rattle.lay_springs.specs.Place.{length_at, reach_at, slack, AreLinear, IsPast, StandApart}
 use Rattle.lay_springs.proofs.Placing.{placed_more, length_is, near_at, reach_is}
 use Rattle.lay_springs.proofs.Near.{next_near}
-use Rattle.lay_springs.proofs.Ends.{spring_short}
 use Rattle.lay_springs.proofs.Longer.{fewer_apart}
 use Rattle.lay_springs.proofs.Fronts.{front_clear, front_below, front_more, past_bound}
 use Rattle.lay_springs.proofs.least.place_next.Goals.{After-set_past-next}
@@ -26,14 +25,23 @@ module _ (g : _) (c : After-set_past-next g) where
       ≡ slice_index_or c.args.at.now (c.args.j - 1) (pos 0)
   before_is = omega (arith, ints, low, high)
 
-  -- the spring that was read, at a force
-  spring_at : (force : ℕ)
+  -- the spring that was read, at a force, if the springs are linear
+  spring_at : AreLinear (c.args.j + 1) (length_at g.C.Spring.length_of c.args.cols.now) → (force : ℕ)
       → length_at g.C.Spring.length_of c.args.cols.now force (c.args.j - 1) ≡ c.length-natural.result * force / 256
-  spring_at force =
-      length_is g.C.Spring.length_of c.args.cols.now force (c.args.j - 1) c.index-cols-j.result
+  spring_at linear force =
+      linear force (c.args.j - 1) (omega arith)
+      ∙ ap (λ n. n * force / 256)
+      (length_is g.C.Spring.length_of c.args.cols.now 256 (c.args.j - 1) c.index-cols-j.result
       (slice_get_read c.args.cols.now (length c.args.cols.now) (c.args.j - 1) c.index-cols-j.result refl (omega arith)
       c.index-cols-j.is)
-      ∙ (g.met.C.Spring.scales c.index-cols-j.result force ∙ ap (λ n. n * force / 256) (sym c.length-natural.ensures))
+      ∙ sym c.length-natural.ensures)
+
+  first_apart : (weak : ℕ → ℕ) (y : List ℤ)
+      → StandApart (c.args.j + 1) (reach_at g.C.Spaced.reach_of c.args.cols.now) c.args.gaps.now weak y
+      → StandApart c.args.j (reach_at g.C.Spaced.reach_of c.args.cols.now) c.args.gaps.now weak y
+  first_apart weak y apart =
+      fewer_apart c.args.j (c.args.j + 1) _ _ c.args.gaps.now _ _ y (omega arith) (λ i lane l. refl) (λ i l. refl)
+      apart
 
   spring_is : length_at g.C.Spring.length_of c.args.cols.now c.args.force (c.args.j - 1) ≡ c.length-spring.result
   spring_is =
@@ -53,8 +61,8 @@ module _ (g : _) (c : After-set_past-next g) where
   -- no column is placed past this bound
   bound : v ≤ℤ pos (1048576 + 3145728 * c.args.j)
   bound =
-      let short = spring_short _ c.args.force _ c.length-spring.result (g.met.C.Spring.is_short c.index-cols-j-2.result)
-      (g.met.C.Spring.scales c.index-cols-j-2.result c.args.force) c.ranges.force.fits c.length-spring.ensures in
+      let short : c.length-spring.result ≤ 1048576 =
+      rw c.length-spring.ensures (g.met.C.Spring.is_short c.index-cols-j-2.result c.args.force c.ranges.force.fits) in
       let from = c.after.ensures.least (pos (1048576 + 3145728 * c.args.j)) (omega (arith, ints, low, high))
       (omega (arith, ints, low, high)) in
       c.set_past-next.ensures.least (pos (1048576 + 3145728 * c.args.j)) (omega (arith, ints))
@@ -94,8 +102,8 @@ module _ (g : _) (c : After-set_past-next g) where
 pub set_past-next-requires-clause-near : goal.set_past-next-requires-clause-near
 set_past-next-requires-clause-near g c =
     let before = c.requires.placed.small (c.args.j - 1) (omega arith) in let low = before.0 in let high = before.1 in
-    let short = spring_short _ c.args.force _ c.length-spring.result (g.met.C.Spring.is_short c.index-cols-j-2.result)
-    (g.met.C.Spring.scales c.index-cols-j-2.result c.args.force) c.ranges.force.fits c.length-spring.ensures in
+    let short : c.length-spring.result ≤ 1048576 =
+    rw c.length-spring.ensures (g.met.C.Spring.is_short c.index-cols-j-2.result c.args.force c.ranges.force.fits) in
     let from = c.after.ensures.least (pos 1152921504606846976) (omega (arith, ints)) (omega (arith, ints)) in
     omega (arith, ints)
 
@@ -108,8 +116,8 @@ tightened-requires-clause-small g c =
 
 pub returns-clause-tight : goal.returns-clause-tight
 returns-clause-tight g c =
-    let short : c.length-natural.result ≤ 4096 =
-    rw c.length-natural.ensures (g.met.C.Spring.is_short c.index-cols-j.result) in
+    let short : c.length-natural.result ≤ 1048576 =
+    rw c.length-natural.ensures (g.met.C.Spring.is_short c.index-cols-j.result 256 (omega arith)) in
     let t = c.requires.tight in
     elim c.tightened.ensures [
       | inl h ↦ rw (h.1, h.2) (omega arith, omega arith)
@@ -133,18 +141,24 @@ returns-clause-placed g c =
     (v g s)
     (subst (λ r. IsPast r c.args.gaps.now (length c.args.gaps.now) c.args.front.now (v g s)) (sym (col_is g s))
     c.set_past-next.ensures.clear))
-    (λ weak drop y e apart.
+    (λ y apart.
+    let least = c.requires.placed.least y (first_apart g s _ y apart) in
+    let last = least (c.args.j - 1) (omega arith) in
+    let sprung = rw (z, spring_is g s) at (apart.springs (c.args.j - 1) (omega arith)) in
+    from_near g s (length_at g.C.Spring.length_of c.args.cols.now c.args.force) y 0 apart
+    (λ k l. let below = least k l in omega (arith, ints, below)) (slice_index_or y c.args.j (pos 0))
+    (omega (arith, ints)) (omega (arith, ints, last, sprung)))
+    (λ linear weak drop y e apart.
     let len : c.length-spring.result ≡ c.length-natural.result * (weak + drop) / 256 =
-    sym (spring_is g s) ∙ (spring_at g s c.args.force ∙ ap (λ f. c.length-natural.result * f / 256) (sym e)) in
-    let near = c.requires.placed.near weak drop y e
-    (fewer_apart c.args.j (c.args.j + 1) _ _ c.args.gaps.now _ _ y (omega arith) (λ i lane l. refl) (λ i l. refl)
-    apart) in
+    sym (spring_is g s) ∙ (spring_at g s linear c.args.force ∙ ap (λ f. c.length-natural.result * f / 256) (sym e)) in
+    let near = c.requires.placed.near (λ force i less. linear force i (omega arith)) weak drop y e
+    (first_apart g s _ y apart) in
     next_near c.args.tight.natural c.args.tight.count c.tightened.result.natural c.tightened.result.count
     c.length-natural.result weak drop
     (slice_index_or c.args.at.now (c.args.j - 1) (pos 0)) (v g s) (slice_index_or y (c.args.j - 1) (pos 0))
     (slice_index_or y c.args.j (pos 0))
     (rw (before_is g s, same g s, len) at t) (near (c.args.j - 1) (omega arith))
-    (rw (z, spring_at g s weak) at (apart.springs (c.args.j - 1) (omega arith))) (rw len at (past g s).1)
+    (rw (z, spring_at g s linear weak) at (apart.springs (c.args.j - 1) (omega arith))) (rw len at (past g s).1)
     (λ w up spring.
     from_near g s (length_at g.C.Spring.length_of c.args.cols.now weak) y
     (slack c.args.tight.natural c.args.tight.count drop) apart near w up (rw len spring)))

@@ -12,7 +12,7 @@ returns-clause-placed g c =
     let i = c.loop-j.invariant in
     record {
       within = let within = i.within in omega arith;
-      tight = subst (λ j. (c.loop-j.tight.natural ≤ 4096 * j) × (c.loop-j.tight.count ≤ j)) done i.tight;
+      tight = subst (λ j. (c.loop-j.tight.natural ≤ 1048576 * j) × (c.loop-j.tight.count ≤ j)) done i.tight;
       placed =
           subst (λ j.
           IsPlacedTo j (reach_at g.C.Spaced.reach_of c.args.cols.now) c.args.gaps.now

@@ -6,7 +6,7 @@ abbrev pub invariant-loop-j : goal.invariant-loop-j
 invariant-loop-j g l = record {
   past : 0 < l.j;
   within : l.j ≤ length l.cols;
-  tight : (l.tight.natural ≤ 4096 * l.j) × (l.tight.count ≤ l.j);
+  tight : (l.tight.natural ≤ 1048576 * l.j) × (l.tight.count ≤ l.j);
   placed : IsPlacedTo l.j (reach_at g.C.Spaced.reach_of l.cols) l.gaps (length_at g.C.Spring.length_of l.cols) l.force
       l.tight.natural l.tight.count l.at;
   front : AreFrontiers l.j (reach_at g.C.Spaced.reach_of l.cols) (length l.gaps) l.at l.front;

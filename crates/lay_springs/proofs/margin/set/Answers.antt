@@ -66,3 +66,6 @@ returns-clause-apart g c =
 pub spread-requires-clause-small : goal.spread-requires-clause-small
 spread-requires-clause-small g c =
     λ k l. c.place_all.ensures.small k (let same = c.place_all.auto.at in let room = c.requires.room in omega arith)
+
+pub place_all-requires-clause-placed : goal.place_all-requires-clause-placed
+place_all-requires-clause-placed g c = c.none.ensures _ _ _ _ _ _

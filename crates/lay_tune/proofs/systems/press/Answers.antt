@@ -1,13 +1,10 @@
-use Rattle.std.proofs.Common.{map, refl, subst, sym}
+use Rattle.std.proofs.{Common.{map, refl, subst, sym}, lemmas.Result.IfOk-weaker}
 use Rattle.lay_springs.specs.Fit.{Fits}
 use Rattle.lay_reaches.specs.Columns.{column_reach}
 use Rattle.lay_spans.proofs.Fitting.{seen_as}
-use Rattle.lay_tune.specs.Spans.{column_length}
+use Rattle.lay_tune.specs.{Spans.column_length, Systems.IsJustified}
 use Rattle.lay_tune.proofs.Within.{justified_seen}
 use Rattle.lay_tune.proofs.systems.press.Goals as goal
-
-pub justify-requires-clause-placed : goal.justify-requires-clause-placed
-justify-requires-clause-placed c = c.none.ensures _ _ _ _ _ _
 
 pub justify-requires-clause-fits : goal.justify-requires-clause-fits
 justify-requires-clause-fits c =
@@ -19,7 +16,9 @@ justify-requires-clause-fits c =
 
 pub returns : goal.returns
 returns c =
-    justified_seen (λ s. s.column.now) c.args.gaps.now c.args.width c.args.last c.args.columns.now c.args.force
-    c.justify.result
-    c.requires.fits.pressed c.justify.ensures.ragged c.justify.ensures.force
-    c.justify.ensures.loose c.justify.ensures.set c.justify.ensures.apart
+    IfOk-weaker c.justify.result _
+    (IsJustified c.args.gaps.now c.args.width c.args.last (map (λ s. s.column.now) c.args.columns.now))
+    (λ p set.
+    justified_seen (λ s. s.column.now) c.args.gaps.now c.args.width c.args.last c.args.columns.now c.args.force p
+    c.requires.fits.pressed set)
+    c.justify.ensures

@@ -1,0 +1,48 @@
+use Rattle.std.proofs.Common.{◌+◌, ◌/◌, length, arith, refl}
+use Rattle.lay_springs.specs.Place.{reach_at, length_at}
+use Rattle.lay_springs.proofs.Ends.{length_rises}
+use Rattle.lay_springs.proofs.Longer.{cannot_stand}
+use Rattle.lay_springs.proofs.Made.{passes_at_none}
+use Rattle.lay_springs.proofs.halves.greatest.Goals as goal
+
+pub loop-low-preserved : goal.loop-low-preserved
+loop-low-preserved g c =
+    let i = c.loop-low.invariant in let less = c.loop-low-test.true in record {
+      between = omega arith;
+      within = let w = i.within in omega arith;
+      room = let r = i.room in let a = c.fits_at.auto.at in omega arith;
+      one_each = let o = i.one_each in let a = c.fits_at.auto.front in omega arith;
+      fits = i.fits;
+      never = λ f from within.
+          cannot_stand (length c.args.cols.now) (reach_at g.C.Spaced.reach_of c.args.cols.now) c.args.gaps.now
+          (length_at g.C.Spring.length_of c.args.cols.now) c.args.width
+          ((c.loop-low.low + c.loop-low.high) / 2) f c.requires.some
+          (length_rises g.C.Spring.length_of c.args.cols.now ((c.loop-low.low + c.loop-low.high) / 2) f
+          (λ col. g.met.C.Spring.rises col ((c.loop-low.low + c.loop-low.high) / 2) f from (omega arith)))
+          (c.if-fits_at.ensures.passes refl);
+    }
+
+pub returns-else-low-eq0 : goal.returns-else-low-eq0
+returns-else-low-eq0 g c =
+    let i = c.loop-low.invariant in
+    let done = c.loop-low-test.false in
+    let some = c.if-low-eq0.false in record {
+      bound = let within = i.within in let between = i.between in omega arith;
+      fits = i.fits (omega arith);
+      greatest = λ f past within stood. i.never f (omega arith) within stood;
+      none = tt;
+    }
+
+pub returns-then-low-eq0 : goal.returns-then-low-eq0
+returns-then-low-eq0 g c = record {
+  bound = tt;
+  fits = tt;
+  greatest = tt;
+  none =
+      passes_at_none g.C.Spaced.reach_of g.C.Spring.length_of c.args.cols.now c.args.gaps.now c.args.width
+      c.requires.some
+      (λ col lane l. g.met.C.Spaced.is_near col lane (let few = c.requires.lanes in omega arith)) c.requires.narrow
+      (λ col. g.met.C.Spring.is_short col 0 (omega arith))
+      (c.loop-low.invariant.never 0
+      (let done = c.loop-low-test.false in let none = c.if-low-eq0.true in omega arith) (omega arith));
+}
