@@ -1,6 +1,6 @@
 -- Facts of the columns of one measure: they belong to it, the last is its bar, and texts are short.
-use Rattle.std.proofs.Common.{◌≡◌, ◌∙◌, ℕ, zero, suc, ◌+◌, ◌-◌, ◌<◌, ◌≤◌, Bool, true, false, List, [], ◌∷◌, length, map}
-use Rattle.std.proofs.Common.{take, drop, Some, Ok, Err, IfOk, Result, refl, sym, ap, subst, arith}
+use Rattle.std.proofs.Common.{◌≡◌, ◌∙◌, ℕ, zero, suc, ◌+◌, ◌-◌, ◌<◌, ◌≤◌, ◌⊎◌, inl, inr, Bool, true, false, List, []}
+use Rattle.std.proofs.Common.{◌∷◌, length, map, drop, Some, Ok, Err, IfOk, Result, refl, sym, ap, subst, arith}
 use Rattle.std.proofs.lemmas.Bool.Decides.{nat_tests}
 use Rattle.std.proofs.lemmas.List.{length-map}
 use Rattle.std.proofs.lemmas.List.Elements.{All-from_recursion, Contains-append_left, Contains-append_right}
@@ -25,11 +25,14 @@ use Rattle.mus_time.specs.Columns.{events_columns, front_columns, keys_called, m
 use Rattle.mus_time.specs.Columns.{staff_columns}
 use Rattle.mus_time.proofs.Called.{called_places, called_same}
 use Rattle.mus_time.proofs.Counts.{voice_count}
+use Rattle.mus_slots.proofs.Ranges.{slice_long}
 use Rattle.mus_marks.specs.Events.{measures_marks}
 use Rattle.mus_marks.specs.Staff.{columns_part}
 use Rattle.mus_marks.specs.System.{drawn_staves}
 use Rattle.mus_marks.proofs.Fitting.{staves_fit}
-use Rattle.mus_marks.proofs.Parts.{columns_all, Fits, FitsMeasure, FitsVoice, measures_all}
+use Rattle.mus_marks.proofs.Inside.{here, none_there}
+use Rattle.mus_marks.proofs.OneList.{first_or}
+use Rattle.mus_marks.proofs.Parts.{Fits, FitsMeasure, FitsVoice, measures_all, voice_all}
 use Rattle.mus_marks.proofs.GoodMarks.{goods, IsGood}
 use Rattle.mus_marks.proofs.VoiceSlots.{columns_laid, measures_laid}
 use Rattle.lay_reaches.specs.declared.column.Column.{Column}
@@ -38,19 +41,6 @@ use Rattle.lay_reaches.specs.Widened.{HaveGoodMarks}
 use Rattle.lay_reaches.proofs.Facts.{columns_stand}
 use Rattle.lay_columns.specs.Measures.{AreMeasureColumns, EndWithBar, fixed_place, keys_in, measure_part, measure_staff}
 use Rattle.lay_columns.specs.Measures.{parts_from}
-
--- ---- one measure of some
-single : {X : Type 0} (m : ℕ) (xs : List X) → m < length xs → (x : X) × (take 1 (drop m xs) ≡ x ∷ [])
-single zero [] h = absurd (omega (arith, h))
-single zero (x ∷ xs) h = (x, refl)
-single (suc m) [] h = absurd (omega (arith, h))
-single (suc m) (x ∷ xs) h = single m xs (omega (arith, h))
-
-pub slice_one : {X : Type 0} (m : ℕ) (xs : List X) → m < length xs → (x : X) × (slice_range xs m (m + 1) ≡ x ∷ [])
-slice_one m xs h =
-    let one = single m xs h in
-    let count : m + 1 - m ≡ 1 = omega arith in
-    (one.0, ap (λ n. take n (drop m xs)) count ∙ one.1)
 
 -- ---- returned values
 pub ok_through : {X E : Type 0} (P Q : X → Type 0) → ((x : X) → P x → Q x) → (r : Result X E) → IfOk r P → IfOk r Q
@@ -85,45 +75,45 @@ bar_class lengths m k below place =
     by Class.Note e same late = grind (arith, nat_tests, e, same, late, below)
     by Class.Bar e same late = refl
 
-past_bar : (lengths : List ℕ) (m : ℕ) (c : Column) (cs : List Column)
-    → BelowAll (bar_key lengths m) (keys_in (c ∷ cs))
-    → AllByRecursion (λ c. IsInSystem lengths m (m + 1) c.key) (c ∷ cs)
-    → EndWithBar (c ∷ cs)
-past_bar lengths m c [] below all =
-    record { prefix = []; last = c; parts = refl; bar = bar_class lengths m c.key below.0 all.0 }
-past_bar lengths m c (d ∷ cs) below all =
-    let more = past_bar lengths m d cs below.1 all.1 in
+one_before : (c : Column) (cs : List Column) → EndWithBar cs → EndWithBar (c ∷ cs)
+one_before c cs more =
     record { prefix = c ∷ more.prefix; last = more.last; parts = ap (λ t. c ∷ t) more.parts; bar = more.bar }
 
-ends : (lengths : List ℕ) (m : ℕ) (cs : List Column)
-    → Rises (keys_in cs)
-    → AllByRecursion (λ c. IsInSystem lengths m (m + 1) c.key) cs
-    → Contains (keys_in cs) (bar_key lengths m)
-    → EndWithBar cs
-ends lengths m [] rise all (i, inside, is) = absurd (omega (arith, inside))
-ends lengths m (c ∷ []) rise all (zero, inside, is) =
-    record { prefix = []; last = c; parts = refl; bar = ap (λ k. k.class) is }
-ends lengths m (c ∷ []) rise all (suc i, inside, is) = absurd (omega (arith, inside))
-ends lengths m (c ∷ d ∷ cs) rise all (zero, inside, is) =
-    let more = past_bar lengths m d cs (subst (λ k. BelowAll k (keys_in (d ∷ cs))) is rise.0) all.1 in
-    record { prefix = c ∷ more.prefix; last = more.last; parts = ap (λ t. c ∷ t) more.parts; bar = more.bar }
-ends lengths m (c ∷ d ∷ cs) rise all (suc i, inside, is) =
-    let more = ends lengths m (d ∷ cs) rise.1 all.1 (i, omega (arith, inside), is) in
-    record { prefix = c ∷ more.prefix; last = more.last; parts = ap (λ t. c ∷ t) more.parts; bar = more.bar }
+-- the bar of the measure is one of these columns, or before them
+ends : (lengths : List ℕ) (m : ℕ) (c : Column) (cs : List Column)
+    → Rises (keys_in (c ∷ cs)) → AllByRecursion (λ c. IsInSystem lengths m (m + 1) c.key) (c ∷ cs)
+    → Contains (keys_in (c ∷ cs)) (bar_key lengths m) ⊎ BelowAll (bar_key lengths m) (keys_in (c ∷ cs))
+    → EndWithBar (c ∷ cs)
+ends lengths m c [] rise all place = record { prefix = []; last = c; parts = refl; bar = by place }
+  where
+    by : Contains (c.key ∷ []) (bar_key lengths m) ⊎ BelowAll (bar_key lengths m) (c.key ∷ []) → c.key.class ≡ Class.Bar
+    by (inl (zero, inside, is)) = ap (λ k. k.class) is
+    by (inl (suc i, inside, is)) = absurd (omega (arith, inside))
+    by (inr below) = bar_class lengths m c.key below.0 all.0
+ends lengths m c (d ∷ cs) rise all (inl has) =
+    one_before c (d ∷ cs)
+    (ends lengths m d cs rise.1 all.1
+    (elim (first_or (bar_key lengths m) c.key (keys_in (d ∷ cs)) has) [
+      | inl e ↦ inr (subst (λ k. BelowAll k (keys_in (d ∷ cs))) e rise.0)
+      | inr i ↦ inl i
+    ]))
+ends lengths m c (d ∷ cs) rise all (inr below) =
+    one_before c (d ∷ cs) (ends lengths m d cs rise.1 all.1 (inr below.1))
 
 pub end_with_bar : (lengths : List ℕ) (m : ℕ) (cs : List Column)
     → Rises (keys_in cs) → All (λ c. IsInSystem lengths m (m + 1) c.key) cs → Contains (keys_in cs) (bar_key lengths m)
     → EndWithBar cs
-end_with_bar lengths m cs rise all h =
-    ends lengths m cs rise (recursion_from_All (λ c. IsInSystem lengths m (m + 1) c.key) cs all) h
+end_with_bar lengths m [] rise all has = absurd (none_there (bar_key lengths m) has)
+end_with_bar lengths m (c ∷ cs) rise all has =
+    ends lengths m c cs rise (recursion_from_All (λ c. IsInSystem lengths m (m + 1) c.key) (c ∷ cs) all) (inl has)
 
-slice_bar : (lengths : List ℕ) (m : ℕ) (in_head : Bool) (ds : List DrawnMeasure)
-    → m < length ds → Contains (measures_columns lengths m in_head (slice_range ds m (m + 1))) (bar_key lengths m)
-slice_bar lengths m in_head ds h =
-    let one = slice_one m ds h in
-    subst (λ xs. Contains (measures_columns lengths m in_head xs) (bar_key lengths m)) (sym one.1)
-    (Contains-append_right (events_columns m in_head one.0.events) (bar_key lengths m ∷ []) (bar_key lengths m)
-    (0, omega arith, refl))
+first_bar : (lengths : List ℕ) (m : ℕ) (in_head : Bool) (ds : List DrawnMeasure)
+    → 1 ≤ length ds → Contains (measures_columns lengths m in_head ds) (bar_key lengths m)
+first_bar lengths m in_head [] some = absurd (omega (arith, some))
+first_bar lengths m in_head (d ∷ ds) some =
+    let bar = bar_key lengths m in
+    let more = measures_columns lengths (m + 1) false ds in
+    Contains-append_right (events_columns m in_head d.events) (bar ∷ more) bar (here bar more)
 
 -- the first voice calls for all its columns
 led_bar : (begins : Bool) (lengths : List ℕ) (m n : ℕ) (vs : List Voice)
@@ -134,11 +124,12 @@ led_bar begins lengths m n [] some led same within = absurd (omega (arith, some)
 led_bar begins lengths m n (v ∷ vs) some led same within =
     let d = drawn_voice v in
     let all = same 0 v (omega arith) in
+    let long = slice_long m (m + 1) d.measures (omega (arith, within, all, voice_count v)) in
     Contains-append_left (staff_columns begins lengths m (m + 1) d)
     (flat_map (staff_columns begins lengths m (m + 1)) (map drawn_voice vs)) (bar_key lengths m)
     (subst (λ lower. Contains (keys_by lower (range_columns begins lengths m (m + 1) d)) (bar_key lengths m)) (sym led)
     (Contains-append_right (front_columns begins m d.first) _ (bar_key lengths m)
-    (slice_bar lengths m begins d.measures (omega (arith, within, all, voice_count v)))))
+    (first_bar lengths m begins (slice_range d.measures m (m + 1)) (omega (arith, long)))))
 
 pub called_has_bar : (begins : Bool) (s : Score) (lengths : List ℕ) (m : ℕ)
     → IsGoodScore s → 1 ≤ length s.voices → m < s.measures
@@ -195,9 +186,8 @@ module _ (keys : List ColumnKey) (lengths : List ℕ) (m : ℕ) where
 
       by : (begins : Bool) → AllByRecursion IsGood (own_laid begins keys lengths m first v)
       by true =
-          columns_all (first + v.verses) keys IsGood (goods (first + v.verses) keys) v.verses lengths
-          (Some (fixed_place first)) m v.seat v.first (slice_range v.measures m (m + 1)) last
-          (sliced v.verses m v.measures fits)
+          voice_all (first + v.verses) keys IsGood (goods (first + v.verses) keys) lengths (Some (fixed_place first)) m
+          (m + 1) v last fits
       by false =
           measures_all (first + v.verses) keys IsGood (goods (first + v.verses) keys) v.verses lengths
           (Some (fixed_place first)) m false (slice_range v.measures m (m + 1)) last

@@ -17,7 +17,7 @@ use Rattle.mus_onsets.specs.declared.times.Timeline.{Timeline}
 use Rattle.mus_onsets.specs.Keys.{AreKeys, change_has_mark, head_key, key_has_mark, measure_keys, meter_has_mark}
 use Rattle.mus_onsets.specs.Keys.{voice_keys}
 use Rattle.mus_onsets.specs.Onsets.{timeline_of}
-use Rattle.mus_onsets.specs.Order.{BelowAll, is_below}
+use Rattle.mus_onsets.specs.Order.{BelowAll, is_below, same_key}
 use Rattle.mus_onsets.proofs.RankLaws.{false_not_true}
 use Rattle.mus_laid.specs.declared.drawn.LaneInk.{LaneInk}
 use Rattle.mus_drawn.specs.declared.drawn.DrawnEvent.{DrawnEvent}
@@ -28,7 +28,7 @@ use Rattle.mus_time.specs.Columns.{has_old}
 use Rattle.mus_time.proofs.Called.{called_same, keys_placed}
 use Rattle.mus_slots.specs.Staff.{slots_at}
 use Rattle.mus_slots.specs.Voice.{head_slots, range_slots, slot_if}
-use Rattle.mus_slots.proofs.ByKey.{at_after}
+use Rattle.mus_slots.proofs.ByKey.{above_differs, at_after}
 use Rattle.mus_slots.proofs.Ranges.{BeginBare, StartsBare, columns_bare, voice_bare}
 use Rattle.mus_marks.specs.Events.{changes_nothing}
 use Rattle.mus_marks.specs.System.{drawn_staves, is_drawn_lower}
@@ -38,7 +38,7 @@ use Rattle.mus_marks.proofs.Placed.{IsReady, all_ready}
 use Rattle.lay_reaches.specs.declared.column.Column.{Column}
 use Rattle.lay_columns.specs.Measures.{AreFurther, AreMeasureColumns, begins_plain, first_plain, is_plain, keys_in}
 use Rattle.lay_columns.proofs.HeadKeys.{HasHead, own_keys}
-use Rattle.lay_columns.proofs.Keyed.{SameAt, all_weaker, both_pass, columns_same, measure_keyed, range_of}
+use Rattle.lay_columns.proofs.Keyed.{SameAt, all_weaker, both_pass, columns_same, measure_keyed}
 
 -- ---- a voice that begins a measure without a change
 no_mark : (signed : Bool) (ch : Changes) → changes_nothing ch ≡ true → change_has_mark signed ch ≡ false
@@ -76,23 +76,23 @@ voices_plain m vs plain =
 
 -- ---- its slots after the head
 head_below : (k : ColumnKey) (m : ℕ) (ds : List DrawnMeasure)
-    → is_below (head_key m) k ≡ true → AllByRecursion (λ s. is_below s.key k ≡ true) (head_slots m ds)
+    → is_below (head_key m) k ≡ true → AllByRecursion (λ s. same_key s.key k ≡ false) (head_slots m ds)
 head_below k m [] below = tt
 head_below k m (d ∷ ds) below = by (not (is_lower d.seat)) _
   where
     by : (b : Bool) (drawn : List LaneInk)
-        → AllByRecursion (λ s. is_below s.key k ≡ true) (slot_if b (head_key m) drawn)
-    by true drawn = (below, tt)
+        → AllByRecursion (λ s. same_key s.key k ≡ false) (slot_if b (head_key m) drawn)
+    by true drawn = (above_differs (head_key m) k below, tt)
     by false drawn = tt
 
 after_head : (lengths : List ℕ) (m : ℕ) (later : 1 ≤ m) (k : ColumnKey)
     → is_below (head_key m) k ≡ true
     → (v : DrawnVoice) → IsPlain m v
-    → SameAt (range_of true lengths m (m + 1)) (range_of false lengths m (m + 1)) k v
+    → SameAt (range_slots true lengths m (m + 1)) (range_slots false lengths m (m + 1)) k v
 after_head lengths m later k below v bare first =
     let head = head_slots m (slice_range v.measures m (m + 1)) in
     ap (slots_at k) (voice_bare first lengths m (m + 1) v later bare)
-    ∙ at_after (λ s. s.key) k head (range_slots false first lengths m (m + 1) v)
+    ∙ at_after (λ s. s.key) k head (range_slots false lengths m (m + 1) first v)
     (head_below k m (slice_range v.measures m (m + 1)) below)
 
 all_below : (k : ColumnKey) (ks : List ColumnKey) → BelowAll k ks → AllByRecursion (λ l. is_below k l ≡ true) ks
@@ -132,7 +132,7 @@ of_after s t m verses column columns good timed later within plain are =
       keys = further;
       value =
           ap (drop 1) (are.value ∙ measure_keyed true s lengths m verses keys good within are.keys)
-          ∙ columns_same (range_of true lengths m (m + 1)) (range_of false lengths m (m + 1))
+          ∙ columns_same (range_slots true lengths m (m + 1)) (range_slots false lengths m (m + 1))
           (λ k. is_below (head_key m) k ≡ true) (IsPlain m) (after_head lengths m later) own (drawn_staves s) lengths
           verses (all_below (head_key m) own (subst (λ k. BelowAll k own) called.0 are.keys.rise.0))
           (grouped_all is_drawn_lower (IsPlain m) voices bare)

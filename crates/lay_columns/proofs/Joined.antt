@@ -11,14 +11,15 @@ use Rattle.mus_score.specs.GoodScore.{IsGoodScore}
 use Rattle.mus_onsets.specs.declared.keys.ColumnKey.{ColumnKey}
 use Rattle.mus_onsets.specs.Keys.{AreKeys, called_keys, further_keys}
 use Rattle.mus_onsets.specs.Onsets.{timeline_of}
-use Rattle.mus_onsets.specs.Order.{is_below}
+use Rattle.mus_onsets.specs.Order.{same_key}
 use Rattle.mus_onsets.proofs.Orders.{lower}
 use Rattle.mus_onsets.proofs.Places.{further_places, places_of}
 use Rattle.mus_laid.specs.declared.laid.SystemMarks.{SystemMarks}
 use Rattle.mus_drawn.specs.declared.drawn.DrawnVoice.{DrawnVoice}
 use Rattle.mus_drawn.specs.Drawn.{drawn_voice}
 use Rattle.mus_slots.specs.Staff.{slots_at}
-use Rattle.mus_slots.proofs.ByKey.{at_after, at_before}
+use Rattle.mus_slots.specs.Voice.{range_slots}
+use Rattle.mus_slots.proofs.ByKey.{above_differs, at_after, at_before, below_differs}
 use Rattle.mus_slots.proofs.Ranges.{voice_more}
 use Rattle.mus_marks.specs.System.{IsCall, drawn_staves, is_drawn_lower}
 use Rattle.mus_marks.proofs.Groups.{grouped_all}
@@ -29,8 +30,8 @@ use Rattle.lay_reaches.specs.Columns.{columns_of}
 use Rattle.lay_reaches.proofs.Keyed.{keyed_append}
 use Rattle.lay_columns.specs.Law.{AreColumnsFrom, MeasuresJoin, one_after_the_other}
 use Rattle.lay_columns.specs.Measures.{AreMeasureColumns, keys_in}
-use Rattle.lay_columns.proofs.Keyed.{IsAmong, IsWhole, SameAt, VoiceRow, all_weaker, both_pass, columns_same, found}
-use Rattle.lay_columns.proofs.Keyed.{measure_among, measure_keyed, range_of, row_boxes, row_columns, system_among}
+use Rattle.lay_columns.proofs.Keyed.{IsAmong, IsWhole, SameAt, SlotsOf, all_weaker, both_pass, columns_same, found}
+use Rattle.lay_columns.proofs.Keyed.{measure_among, measure_keyed, key_boxes, key_columns, system_among}
 use Rattle.lay_columns.proofs.Keyed.{system_keyed, voices_whole}
 use Rattle.lay_columns.proofs.Keys.{keys_grow}
 
@@ -43,21 +44,21 @@ apart a b h = grind (arith, nat_tests)
 abbrev ticks : Score → List ℕ
 ticks s = (timeline_of s).lengths
 
-abbrev columns_by : Score → VoiceRow → List ColumnKey → List ℕ → List Column
-columns_by s row keys verses = row_columns row keys (drawn_staves s) (ticks s) verses
+abbrev columns_by : Score → SlotsOf → List ColumnKey → List ℕ → List Column
+columns_by s slots keys verses = key_columns slots keys (drawn_staves s) (ticks s) verses
 
 -- ---- one more measure
 module _ (s : Score) (good : IsGoodScore s) (a b : ℕ) (order : a < b) (within : b < s.measures)
     (keys more : List ColumnKey) (are : AreKeys keys (called_keys s (ticks s) a b))
     (further : AreKeys more (further_keys s (ticks s) b)) where
-  abbrev system : VoiceRow
-  system = range_of true (ticks s) a b
+  abbrev system : SlotsOf
+  system = range_slots true (ticks s) a b
 
-  abbrev measure : VoiceRow
-  measure = range_of false (ticks s) b (b + 1)
+  abbrev measure : SlotsOf
+  measure = range_slots false (ticks s) b (b + 1)
 
-  abbrev longer : VoiceRow
-  longer = range_of true (ticks s) a (b + 1)
+  abbrev longer : SlotsOf
+  longer = range_slots true (ticks s) a (b + 1)
 
   before : AllByRecursion (λ k. k.measure < b) keys
   before =
@@ -77,9 +78,10 @@ module _ (s : Score) (good : IsGoodScore s) (a b : ℕ) (order : a < b) (within 
       let count = is.0.count in
       ap (slots_at k) (voice_more first (ticks s) a b v order (omega (arith, within, count)))
       ∙ at_before (λ s. s.key) k (system first v) (measure first v)
-      (all_weaker (λ s. Contains more s.key) (λ s. is_below k s.key ≡ true)
+      (all_weaker (λ s. Contains more s.key) (λ s. same_key s.key k ≡ false)
       (λ s has.
-      let late = found (λ l. b ≤ l.measure) more s.key from has in lower k s.key (omega (arith, early, late)))
+      let late = found (λ l. b ≤ l.measure) more s.key from has in
+      below_differs k s.key (lower k s.key (omega (arith, early, late))))
       (measure first v) (is.1.1 first))
 
   second_same : (k : ColumnKey) → b ≤ k.measure → (v : DrawnVoice) → IsJoined v → SameAt longer measure k v
@@ -87,9 +89,10 @@ module _ (s : Score) (good : IsGoodScore s) (a b : ℕ) (order : a < b) (within 
       let count = is.0.count in
       ap (slots_at k) (voice_more first (ticks s) a b v order (omega (arith, within, count)))
       ∙ at_after (λ s. s.key) k (system first v) (measure first v)
-      (all_weaker (λ s. Contains keys s.key) (λ s. is_below s.key k ≡ true)
+      (all_weaker (λ s. Contains keys s.key) (λ s. same_key s.key k ≡ false)
       (λ s has.
-      let early = found (λ l. l.measure < b) keys s.key before has in lower s.key k (omega (arith, early, late)))
+      let early = found (λ l. l.measure < b) keys s.key before has in
+      above_differs s.key k (lower s.key k (omega (arith, early, late))))
       (system first v) (is.1.0 first))
 
   joined : AllByRecursion (AllByRecursion IsJoined) (drawn_staves s)
@@ -107,7 +110,7 @@ module _ (s : Score) (good : IsGoodScore s) (a b : ℕ) (order : a < b) (within 
   columns_joined : (verses : List ℕ)
       → columns_by s longer (keys ++ more) verses ≡ columns_by s system keys verses ++ columns_by s measure more verses
   columns_joined verses =
-      keyed_append (ticks s) (row_boxes longer) b keys more (drawn_staves s) verses before from
+      keyed_append (ticks s) (key_boxes longer) b keys more (drawn_staves s) verses before from
       ∙ ap (λ t. t ++ columns_by s longer more verses)
       (columns_same longer system (λ k. k.measure < b) IsJoined first_same keys (drawn_staves s) (ticks s) verses before
       joined)
@@ -120,7 +123,7 @@ abbrev AreColumns : Score → ℕ → ℕ → List ℕ → List Column → Type 
 AreColumns s a b verses columns =
     (keys : List ColumnKey)
     × AreKeys keys (called_keys s (ticks s) a b)
-    × (columns_by s (range_of true (ticks s) a b) keys verses ≡ columns)
+    × (columns_by s (range_slots true (ticks s) a b) keys verses ≡ columns)
 
 module _ (s : Score) (good : IsGoodScore s) (a : ℕ) (verses : List ℕ) where
   one_more : (b : ℕ) (columns further : List Column)
@@ -134,7 +137,7 @@ module _ (s : Score) (good : IsGoodScore s) (a : ℕ) (verses : List ℕ) where
         keys ++ more,
         keys_joined s good a b order within keys more are is.keys,
         columns_joined s good a b order within keys more are is.keys verses
-            ∙ ap (λ t. t ++ columns_by s (range_of false (ticks s) b (b + 1)) more verses) value
+            ∙ ap (λ t. t ++ columns_by s (range_slots false (ticks s) b (b + 1)) more verses) value
             ∙ ap (λ t. columns ++ t)
             (sym (measure_keyed false s (ticks s) b verses more good within is.keys) ∙ sym is.value),
       )
@@ -161,7 +164,7 @@ module _ (s : Score) (good : IsGoodScore s) (a : ℕ) (verses : List ℕ) where
       ap (λ t. columns_of m.keys t (ticks s) verses)
       (call.staves ∙ marks_are_slots s (timeline_of s) a b m.keys refl good order within call.keys)
       ∙ system_keyed m.keys (ticks s) a b call.keys.rise (drawn_staves s) verses
-      ∙ ap (λ ks. columns_by s (range_of true (ticks s) a b) ks verses)
+      ∙ ap (λ ks. columns_by s (range_slots true (ticks s) a b) ks verses)
       (same_keys m.keys keys (called_keys s (ticks s) a b) call.keys are)
       ∙ value
 

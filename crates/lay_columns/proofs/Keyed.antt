@@ -12,6 +12,7 @@ use Rattle.mus_onsets.specs.declared.keys.ColumnKey.{ColumnKey}
 use Rattle.mus_onsets.specs.Keys.{AreKeys, called_keys}
 use Rattle.mus_onsets.specs.Order.{Rises, key_rank}
 use Rattle.mus_laid.specs.declared.boxes.Sides.{Sides}
+use Rattle.mus_laid.specs.declared.laid.StaffMarks.{StaffMarks}
 use Rattle.mus_drawn.specs.declared.drawn.DrawnVoice.{DrawnVoice}
 use Rattle.mus_drawn.specs.Drawn.{drawn_voice}
 use Rattle.mus_time.specs.Columns.{keys_called, staff_columns}
@@ -48,49 +49,47 @@ both_pass P Q (x ∷ xs) p q = ((p.0, q.0), both_pass P Q xs p.1 q.1)
 pub found : {X : Type 0} (P : X → Type 0) (xs : List X) (x : X) → AllByRecursion P xs → Contains xs x → P x
 found P xs x all has = All-contains P xs x (All-from_recursion P xs all) has
 
--- the slots of a voice whose verses count from some number on
-abbrev pub VoiceRow : Type 0
-VoiceRow = ℕ → DrawnVoice → List Slot
-
-abbrev pub range_of : Bool → List ℕ → ℕ → ℕ → VoiceRow
-range_of begins lengths a b first v = range_slots begins first lengths a b v
+-- the slots of each voice, given the number of its first verse
+abbrev pub SlotsOf : Type 0
+SlotsOf = ℕ → DrawnVoice → List Slot
 
 -- what the voices of a staff have at a key, the verses of each after those of the voices before it
-abbrev pub staff_at : VoiceRow → ColumnKey → ℕ → List DrawnVoice → List Slot
-staff_at row k first [] = []
-staff_at row k first (v ∷ vs) = slots_at k (row first v) ++ staff_at row k (first + v.verses) vs
+abbrev pub staff_at : SlotsOf → ColumnKey → ℕ → List DrawnVoice → List Slot
+staff_at slots k first [] = []
+staff_at slots k first (v ∷ vs) = slots_at k (slots first v) ++ staff_at slots k (first + v.verses) vs
 
-abbrev pub row_boxes : VoiceRow → List DrawnVoice → ColumnKey → ℕ → List Sides
-row_boxes row vs k lane = slots_boxes lane (staff_at row k 0 vs)
+abbrev pub key_boxes : SlotsOf → List DrawnVoice → ColumnKey → ℕ → List Sides
+key_boxes slots vs k lane = slots_boxes lane (staff_at slots k 0 vs)
 
-abbrev pub row_columns : VoiceRow → List ColumnKey → List (List DrawnVoice) → List ℕ → List ℕ → List Column
-row_columns row keys staves lengths verses = keyed_columns (row_boxes row) keys staves lengths verses
+abbrev pub key_columns : SlotsOf → List ColumnKey → List (List DrawnVoice) → List ℕ → List ℕ → List Column
+key_columns slots keys staves lengths verses = keyed_columns (key_boxes slots) keys staves lengths verses
 
 -- ---- where the slots at each key are the same
-module _ (row other : VoiceRow) (k : ColumnKey) where
+module _ (slots other : SlotsOf) (k : ColumnKey) where
   abbrev pub SameAt : DrawnVoice → Type 0
-  SameAt v = (first : ℕ) → slots_at k (row first v) ≡ slots_at k (other first v)
+  SameAt v = (first : ℕ) → slots_at k (slots first v) ≡ slots_at k (other first v)
 
   staff_same : (first : ℕ) (vs : List DrawnVoice)
-      → AllByRecursion SameAt vs → staff_at row k first vs ≡ staff_at other k first vs
+      → AllByRecursion SameAt vs → staff_at slots k first vs ≡ staff_at other k first vs
   staff_same first [] same = refl
   staff_same first (v ∷ vs) same =
-      ap (λ t. t ++ staff_at row k (first + v.verses) vs) (same.0 first)
+      ap (λ t. t ++ staff_at slots k (first + v.verses) vs) (same.0 first)
       ∙ ap (λ t. slots_at k (other first v) ++ t) (staff_same (first + v.verses) vs same.1)
 
-pub columns_same : (row other : VoiceRow) (P : ColumnKey → Type 0) (Q : DrawnVoice → Type 0)
-    → ((k : ColumnKey) → P k → (v : DrawnVoice) → Q v → SameAt row other k v)
+pub columns_same : (slots other : SlotsOf) (P : ColumnKey → Type 0) (Q : DrawnVoice → Type 0)
+    → ((k : ColumnKey) → P k → (v : DrawnVoice) → Q v → SameAt slots other k v)
     → (keys : List ColumnKey) (staves : List (List DrawnVoice)) (lengths verses : List ℕ)
     → AllByRecursion P keys → AllByRecursion (AllByRecursion Q) staves
-    → row_columns row keys staves lengths verses ≡ row_columns other keys staves lengths verses
-columns_same row other P Q same keys staves lengths verses known all =
-    keyed_same lengths (row_boxes row) (row_boxes other) keys staves verses
-    (all_weaker P (λ k. AllByRecursion (λ vs. (lane : ℕ) → row_boxes row vs k lane ≡ row_boxes other vs k lane) staves)
+    → key_columns slots keys staves lengths verses ≡ key_columns other keys staves lengths verses
+columns_same slots other P Q same keys staves lengths verses known all =
+    keyed_same lengths (key_boxes slots) (key_boxes other) keys staves verses
+    (all_weaker P
+    (λ k. AllByRecursion (λ vs. (lane : ℕ) → key_boxes slots vs k lane ≡ key_boxes other vs k lane) staves)
     (λ k p.
-    all_weaker (AllByRecursion Q) (λ vs. (lane : ℕ) → row_boxes row vs k lane ≡ row_boxes other vs k lane)
+    all_weaker (AllByRecursion Q) (λ vs. (lane : ℕ) → key_boxes slots vs k lane ≡ key_boxes other vs k lane)
     (λ vs each lane.
     ap (slots_boxes lane)
-    (staff_same row other k 0 vs (all_weaker Q (SameAt row other k) (λ v q. same k p v q) vs each)))
+    (staff_same slots other k 0 vs (all_weaker Q (SameAt slots other k) (λ v q. same k p v q) vs each)))
     staves all)
     keys known)
 
@@ -109,8 +108,8 @@ pub voices_whole : (s : Score) → IsGoodScore s → AllByRecursion (IsWhole s.m
 voices_whole s good =
     whole s.measures s.voices (recursion_from_All (λ v. length v.measures ≡ s.measures) s.voices good.measures)
 
-abbrev pub IsAmong : List ColumnKey → VoiceRow → DrawnVoice → Type 0
-IsAmong keys row v = (first : ℕ) → AllByRecursion (λ s. Contains keys s.key) (row first v)
+abbrev pub IsAmong : List ColumnKey → SlotsOf → DrawnVoice → Type 0
+IsAmong keys slots v = (first : ℕ) → AllByRecursion (λ s. Contains keys s.key) (slots first v)
 
 slots_among : (keys : List ColumnKey) (ss : List Slot)
     → AreAmong (keys_of ss) keys → AllByRecursion (λ s. Contains keys s.key) ss
@@ -122,7 +121,7 @@ slots_among keys (s ∷ ss) among = (
 
 voices_among : (begins : Bool) (lengths : List ℕ) (a b n : ℕ) (keys : List ColumnKey) (vs : List DrawnVoice)
     → a < b → b ≤ n → AllByRecursion (IsWhole n) vs → AreAmong (flat_map (staff_columns begins lengths a b) vs) keys
-    → AllByRecursion (IsAmong keys (range_of begins lengths a b)) vs
+    → AllByRecursion (IsAmong keys (range_slots begins lengths a b)) vs
 voices_among begins lengths a b n keys [] order within all among = tt
 voices_among begins lengths a b n keys (v ∷ vs) order within all among =
     let count = all.0.count in
@@ -130,7 +129,7 @@ voices_among begins lengths a b n keys (v ∷ vs) order within all among =
     let own = staff_columns begins lengths a b v in
     let more = flat_map (staff_columns begins lengths a b) vs in (
       λ first.
-          slots_among keys (range_slots begins first lengths a b v)
+          slots_among keys (range_slots begins lengths a b first v)
           (subst (λ ks. AreAmong ks keys)
           (sym (range_keyed begins first lengths a b v (omega (arith, long, order)) all.0.seated))
           (among_left own more keys among)),
@@ -140,73 +139,75 @@ voices_among begins lengths a b n keys (v ∷ vs) order within all among =
 -- in a system, and in one measure
 pub system_among : (s : Score) (lengths : List ℕ) (a b : ℕ) (keys : List ColumnKey)
     → IsGoodScore s → a < b → b ≤ s.measures → AreKeys keys (called_keys s lengths a b)
-    → AllByRecursion (IsAmong keys (range_of true lengths a b)) (map drawn_voice s.voices)
+    → AllByRecursion (IsAmong keys (range_slots true lengths a b)) (map drawn_voice s.voices)
 system_among s lengths a b keys good order within are =
     voices_among true lengths a b s.measures keys (map drawn_voice s.voices) order within (voices_whole s good)
     (subst (λ called. AreAmong called keys) (voices_same lengths a b s.voices) are.all)
 
 pub measure_among : (begins : Bool) (s : Score) (lengths : List ℕ) (m : ℕ) (keys : List ColumnKey)
     → IsGoodScore s → m < s.measures → AreKeys keys (keys_called begins s lengths m)
-    → AllByRecursion (IsAmong keys (range_of begins lengths m (m + 1))) (map drawn_voice s.voices)
+    → AllByRecursion (IsAmong keys (range_slots begins lengths m (m + 1))) (map drawn_voice s.voices)
 measure_among begins s lengths m keys good within are =
     voices_among begins lengths m (m + 1) s.measures keys (map drawn_voice s.voices) (omega arith)
     (omega (arith, within)) (voices_whole s good)
     (subst (λ called. AreAmong called keys) (called_same begins s lengths m) are.all)
 
 -- ---- a measure
-module _ (keys : List ColumnKey) (row : VoiceRow) (k : ColumnKey) (lane : ℕ) (has : Contains keys k) where
+module _ (keys : List ColumnKey) (slots : SlotsOf) (k : ColumnKey) (lane : ℕ) (has : Contains keys k) where
   parts_boxes : (first : ℕ) (vs : List DrawnVoice)
-      → AllByRecursion (IsAmong keys row) vs
-      → boxes_at (key_rank keys k) lane (parts_from (λ first v. slots_marks keys (row first v)) first vs)
-      ≡ slots_boxes lane (staff_at row k first vs)
+      → AllByRecursion (IsAmong keys slots) vs
+      → boxes_at (key_rank keys k) lane (parts_from (λ first v. slots_marks keys (slots first v)) first vs)
+      ≡ slots_boxes lane (staff_at slots k first vs)
   parts_boxes first [] among = refl
   parts_boxes first (v ∷ vs) among =
       let r = key_rank keys k in
-      let rest = parts_from (λ first v. slots_marks keys (row first v)) (first + v.verses) vs in
-      filter_map-append (box_at r lane) (slots_marks keys (row first v)) rest
+      let rest = parts_from (λ first v. slots_marks keys (slots first v)) (first + v.verses) vs in
+      filter_map-append (box_at r lane) (slots_marks keys (slots first v)) rest
       ∙ ap (λ t. t ++ boxes_at r lane rest)
-      (boxes_of (λ s. s.key) slot_ink keys k lane has (row first v) (among.0 first))
-      ∙ ap (λ t. slots_boxes lane (slots_at k (row first v)) ++ t) (parts_boxes (first + v.verses) vs among.1)
-      ∙ sym (slots_both lane (slots_at k (row first v)) (staff_at row k (first + v.verses) vs))
+      (boxes_of (λ s. s.key) slot_ink keys k lane has (slots first v) (among.0 first))
+      ∙ ap (λ t. slots_boxes lane (slots_at k (slots first v)) ++ t) (parts_boxes (first + v.verses) vs among.1)
+      ∙ sym (slots_both lane (slots_at k (slots first v)) (staff_at slots k (first + v.verses) vs))
 
 pub measure_keyed : (begins : Bool) (s : Score) (lengths : List ℕ) (m : ℕ) (verses : List ℕ) (keys : List ColumnKey)
     → IsGoodScore s → m < s.measures → AreKeys keys (keys_called begins s lengths m)
     → columns_of keys (map (measure_staff begins keys lengths m) (drawn_staves s)) lengths verses
-    ≡ row_columns (range_of begins lengths m (m + 1)) keys (drawn_staves s) lengths verses
+    ≡ key_columns (range_slots begins lengths m (m + 1)) keys (drawn_staves s) lengths verses
 measure_keyed begins s lengths m verses keys good within are =
-    let row = range_of begins lengths m (m + 1) in
+    let slots = range_slots begins lengths m (m + 1) in
     let staff = measure_staff begins keys lengths m in
-    columns_keyed lengths staff (row_boxes row) keys (drawn_staves s) verses are.rise
-    (all_weaker (AllByRecursion (IsAmong keys row)) (λ vs. HasBoxes keys (staff vs).marks (row_boxes row vs))
-    (λ vs each k lane has. parts_boxes keys row k lane has 0 vs each) (drawn_staves s)
-    (grouped_all is_drawn_lower (IsAmong keys row) (map drawn_voice s.voices)
+    columns_keyed lengths staff (key_boxes slots) keys (drawn_staves s) verses are.rise
+    (all_weaker (AllByRecursion (IsAmong keys slots)) (λ vs. HasBoxes keys (staff vs).marks (key_boxes slots vs))
+    (λ vs each k lane has. parts_boxes keys slots k lane has 0 vs each) (drawn_staves s)
+    (grouped_all is_drawn_lower (IsAmong keys slots) (map drawn_voice s.voices)
     (measure_among begins s lengths m keys good within are)))
 
 -- ---- a system
 voices_at : (lengths : List ℕ) (a b : ℕ) (k : ColumnKey) (first : ℕ) (vs : List DrawnVoice)
     → column_slots k (all_slots (slots_of_voices first lengths a b vs))
-    ≡ staff_at (range_of true lengths a b) k first vs
+    ≡ staff_at (range_slots true lengths a b) k first vs
 voices_at lengths a b k first [] = refl
 voices_at lengths a b k first (v ∷ vs) =
     ap (λ t. slots_at k (voice_slots first lengths a b v) ++ t) (voices_at lengths a b k (first + v.verses) vs)
 
 module _ (keys : List ColumnKey) (lengths : List ℕ) (a b : ℕ) (rise : Rises keys) where
-  slotted_boxes : (vs : List DrawnVoice)
-      → HasBoxes keys (slotted_staff keys lengths a b vs).marks (row_boxes (range_of true lengths a b) vs)
+  abbrev staff : List DrawnVoice → StaffMarks
+  staff = slotted_staff keys lengths a b
+
+  abbrev boxes : List DrawnVoice → ColumnKey → ℕ → List Sides
+  boxes = key_boxes (range_slots true lengths a b)
+
+  slotted_boxes : (vs : List DrawnVoice) → HasBoxes keys (staff vs).marks (boxes vs)
   unfolding staff_over
   slotted_boxes vs k lane has =
       staff_boxes keys k lane (verses_on vs) (slots_of_voices 0 lengths a b vs) rise has
       ∙ ap (slots_boxes lane) (voices_at lengths a b k 0 vs)
 
   all_slotted : (staves : List (List DrawnVoice))
-      → AllByRecursion
-      (λ vs. HasBoxes keys (slotted_staff keys lengths a b vs).marks (row_boxes (range_of true lengths a b) vs)) staves
+      → AllByRecursion (λ vs. HasBoxes keys (staff vs).marks (boxes vs)) staves
   all_slotted [] = tt
   all_slotted (vs ∷ staves) = (slotted_boxes vs, all_slotted staves)
 
   pub system_keyed : (staves : List (List DrawnVoice)) (verses : List ℕ)
       → columns_of keys (map (slotted_staff keys lengths a b) staves) lengths verses
-      ≡ row_columns (range_of true lengths a b) keys staves lengths verses
-  system_keyed staves verses =
-      columns_keyed lengths (slotted_staff keys lengths a b) (row_boxes (range_of true lengths a b)) keys staves verses
-      rise (all_slotted staves)
+      ≡ key_columns (range_slots true lengths a b) keys staves lengths verses
+  system_keyed staves verses = columns_keyed lengths staff boxes keys staves verses rise (all_slotted staves)

@@ -43,17 +43,18 @@ abbrev pub parts_from : (ℕ → DrawnVoice → List Laid) → ℕ → List Draw
 parts_from part first [] = []
 parts_from part first (v ∷ vs) = part first v ++ parts_from part (first + v.verses) vs
 
--- what slots have in their columns
+-- all that a slot has in its column, with its words in that room
 abbrev pub slot_ink : Slot → List LaneInk
 slot_ink s = s.drawn ++ written_marks (text_place fixed_room no_texts) s.written
 
+-- the marks of slots, each at the rank of its key
 abbrev pub slots_marks : List ColumnKey → List Slot → List Laid
 slots_marks keys slots = flat_map (λ s. map (drawn_at (key_rank keys s.key)) (slot_ink s)) slots
 
 -- The marks in the columns of measure m of a voice. If the system begins with it: with the system's head and the bar
 -- before the first measure. If the system began before: each event after its change and its graces, and the bar.
 abbrev pub measure_part : Bool → List ColumnKey → List ℕ → ℕ → ℕ → DrawnVoice → List Laid
-measure_part begins keys lengths m first v = slots_marks keys (range_slots begins first lengths m (m + 1) v)
+measure_part begins keys lengths m first v = slots_marks keys (range_slots begins lengths m (m + 1) first v)
 
 abbrev pub measure_staff : Bool → List ColumnKey → List ℕ → ℕ → List DrawnVoice → StaffMarks
 measure_staff begins keys lengths m voices = staff_of_columns (parts_from (measure_part begins keys lengths m) 0 voices)

@@ -27,11 +27,11 @@ pub same_itself : (k : ColumnKey) → same_key k k ≡ true
 unfolding same_key
 same_itself k = grind (arith, nat_tests)
 
-below_differs : (k l : ColumnKey) → is_below k l ≡ true → same_key l k ≡ false
+pub below_differs : (k l : ColumnKey) → is_below k l ≡ true → same_key l k ≡ false
 unfolding is_below same_key
 below_differs k l h = grind (arith, nat_tests)
 
-above_differs : (k l : ColumnKey) → is_below k l ≡ true → same_key k l ≡ false
+pub above_differs : (k l : ColumnKey) → is_below k l ≡ true → same_key k l ≡ false
 unfolding is_below same_key
 above_differs k l h = grind (arith, nat_tests)
 
@@ -132,28 +132,17 @@ module _ {S : Type 0} (key : S → ColumnKey) where
   none_unlike k (s ∷ ss) unlike =
       ap (λ b. cond b (s ∷ at k ss) (at k ss)) unlike.0 ∙ none_unlike k ss unlike.1
 
-  -- things before a key, then others
+  -- before or after things that have other keys
   pub at_after : (k : ColumnKey) (ss ts : List S)
-      → AllByRecursion (λ s. is_below (key s) k ≡ true) ss → at k (ss ++ ts) ≡ at k ts
-  at_after k ss ts before =
-      filter-append (λ s. same_key (key s) k) ss ts ∙ ap (λ t. t ++ at k ts) (none_unlike k ss (by ss before))
-    where
-      by : (ss : List S)
-          → AllByRecursion (λ s. is_below (key s) k ≡ true) ss → AllByRecursion (λ s. same_key (key s) k ≡ false) ss
-      by [] before = tt
-      by (s ∷ ss) before = (above_differs (key s) k before.0, by ss before.1)
+      → AllByRecursion (λ s. same_key (key s) k ≡ false) ss → at k (ss ++ ts) ≡ at k ts
+  at_after k ss ts unlike =
+      filter-append (λ s. same_key (key s) k) ss ts ∙ ap (λ t. t ++ at k ts) (none_unlike k ss unlike)
 
-  -- things, then others after a key
   pub at_before : (k : ColumnKey) (ss ts : List S)
-      → AllByRecursion (λ t. is_below k (key t) ≡ true) ts → at k (ss ++ ts) ≡ at k ss
-  at_before k ss ts past =
+      → AllByRecursion (λ t. same_key (key t) k ≡ false) ts → at k (ss ++ ts) ≡ at k ss
+  at_before k ss ts unlike =
       filter-append (λ s. same_key (key s) k) ss ts
-      ∙ ap (λ t. at k ss ++ t) (none_unlike k ts (by ts past)) ∙ append-nil (at k ss)
-    where
-      by : (ts : List S)
-          → AllByRecursion (λ t. is_below k (key t) ≡ true) ts → AllByRecursion (λ t. same_key (key t) k ≡ false) ts
-      by [] past = tt
-      by (t ∷ ts) past = (below_differs k (key t) past.0, by ts past.1)
+      ∙ ap (λ t. at k ss ++ t) (none_unlike k ts unlike) ∙ append-nil (at k ss)
 
   pub one_at : (k : ColumnKey) (ss : List S) → Rises (map key ss) → AtMostOne k (at k ss)
   one_at k [] rise = inl refl

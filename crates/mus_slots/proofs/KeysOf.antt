@@ -193,7 +193,7 @@ voice_keyed first lengths a b v some seated =
 -- in a system that begins with these measures, or began before
 pub range_keyed : (begins : Bool) (first : ℕ) (lengths : List ℕ) (a b : ℕ) (v : DrawnVoice)
     → 1 ≤ length (slice_range v.measures a b) → AllByRecursion (IsSeated (is_lower v.seat)) v.measures
-    → keys_of (range_slots begins first lengths a b v) ≡ staff_columns begins lengths a b v
+    → keys_of (range_slots begins lengths a b first v) ≡ staff_columns begins lengths a b v
 range_keyed true first lengths a b v some seated = voice_keyed first lengths a b v some seated
 range_keyed false first lengths a b v some seated =
     measures_keyed first (is_lower v.seat) lengths a false (slice_range v.measures a b)

@@ -63,7 +63,7 @@ module _ (first : ℕ) (lengths : List ℕ) where
   pub voice_more : (a b : ℕ) (v : DrawnVoice)
       → a < b → b < length v.measures
       → voice_slots first lengths a (b + 1) v
-      ≡ voice_slots first lengths a b v ++ range_slots false first lengths b (b + 1) v
+      ≡ voice_slots first lengths a b v ++ range_slots false lengths b (b + 1) first v
   voice_more a b v order within =
       let xs = slice_range v.measures a b in
       let ys = slice_range v.measures b (b + 1) in
@@ -121,7 +121,7 @@ module _ (first : ℕ) (lengths : List ℕ) where
   pub voice_bare : (a b : ℕ) (v : DrawnVoice)
       → 1 ≤ a → BeginBare (slice_range v.measures a b)
       → voice_slots first lengths a b v
-      ≡ head_slots a (slice_range v.measures a b) ++ range_slots false first lengths a b v
+      ≡ head_slots a (slice_range v.measures a b) ++ range_slots false lengths a b first v
   voice_bare a b v later bare =
       let ds = slice_range v.measures a b in
       ap (λ c.
@@ -143,8 +143,8 @@ module _ (lengths : List ℕ) (a b : ℕ) (v : DrawnVoice) (seated : AllByRecurs
         let more = slice_long b (b + 1) v.measures (omega (arith, within)) in
         sym (range_keyed true 0 lengths a (b + 1) v (omega (arith, longer, order)) seated)
         ∙ ap keys_of (voice_more 0 lengths a b v order within)
-        ∙ map-append (λ s. s.key) (voice_slots 0 lengths a b v) (range_slots false 0 lengths b (b + 1) v)
-        ∙ ap (λ t. t ++ keys_of (range_slots false 0 lengths b (b + 1) v))
+        ∙ map-append (λ s. s.key) (voice_slots 0 lengths a b v) (range_slots false lengths b (b + 1) 0 v)
+        ∙ ap (λ t. t ++ keys_of (range_slots false lengths b (b + 1) 0 v))
         (range_keyed true 0 lengths a b v (omega (arith, long, order)) seated)
         ∙ ap (λ t. staff_columns true lengths a b v ++ t)
         (range_keyed false 0 lengths b (b + 1) v (omega (arith, more)) seated)
@@ -156,7 +156,7 @@ module _ (lengths : List ℕ) (a b : ℕ) (v : DrawnVoice) (seated : AllByRecurs
         let ds = slice_range v.measures a b in
         sym (range_keyed true 0 lengths a b v some seated)
         ∙ ap keys_of (voice_bare 0 lengths a b v later bare)
-        ∙ map-append (λ s. s.key) (head_slots a ds) (range_slots false 0 lengths a b v)
-        ∙ ap (λ t. t ++ keys_of (range_slots false 0 lengths a b v))
+        ∙ map-append (λ s. s.key) (head_slots a ds) (range_slots false lengths a b 0 v)
+        ∙ ap (λ t. t ++ keys_of (range_slots false lengths a b 0 v))
         (head_keyed 0 (is_lower v.seat) a ds some (seated_range (is_lower v.seat) a b v.measures seated))
         ∙ ap (λ t. keys_by (is_lower v.seat) (head_key a ∷ []) ++ t) (range_keyed false 0 lengths a b v some seated)

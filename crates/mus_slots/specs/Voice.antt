@@ -120,9 +120,9 @@ abbrev pub voice_slots : ℕ → List ℕ → ℕ → ℕ → DrawnVoice → Lis
 voice_slots first lengths a b v = columns_slots first lengths a v.seat v.first (slice_range v.measures a b)
 
 -- the same if the system begins with measure a, or began before
-abbrev pub range_slots : Bool → ℕ → List ℕ → ℕ → ℕ → DrawnVoice → List Slot
-range_slots true first lengths a b v = voice_slots first lengths a b v
-range_slots false first lengths a b v = measures_slots first lengths a false (slice_range v.measures a b)
+abbrev pub range_slots : Bool → List ℕ → ℕ → ℕ → ℕ → DrawnVoice → List Slot
+range_slots true lengths a b first v = voice_slots first lengths a b v
+range_slots false lengths a b first v = measures_slots first lengths a false (slice_range v.measures a b)
 
 abbrev pub slots_of_voice : ℕ → List ℕ → ℕ → ℕ → DrawnVoice → VoiceSlots
 slots_of_voice first lengths a b v =
