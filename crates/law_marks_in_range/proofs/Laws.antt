@@ -108,7 +108,8 @@ module _ (s : Score) (a b : ℕ) (m : SystemMarks) (good : IsGoodScore s) (rises
   unfolding staff_over
   each_staff Q P holds known =
       subst (All (λ (t : StaffMarks). All P t.marks)) (sym staves_same)
-      (All-from_recursion (λ (t : StaffMarks). All P t.marks) (map staff (drawn_staves s)) (along (drawn_staves s) known))
+      (All-from_recursion (λ (t : StaffMarks). All P t.marks) (map staff (drawn_staves s))
+      (along (drawn_staves s) known))
     where
       along : (staves : List (List DrawnVoice))
           → AllByRecursion (AllByRecursion Q) staves
@@ -149,7 +150,9 @@ module _ (s : Score) (a b : ℕ) (m : SystemMarks) (good : IsGoodScore s) (rises
       let ranks = λ (voices : List DrawnVoice). marks_ranks (staff voices).marks in
       found i (staves_ranks m.staves)
       (subst (λ ns. Contains ns i)
-      (sym (ap staves_ranks staves_same ∙ flat_map-map (λ (t : StaffMarks). marks_ranks t.marks) staff (drawn_staves s)))
+      (sym
+      (ap staves_ranks staves_same
+      ∙ flat_map-map (λ (t : StaffMarks). marks_ranks t.marks) staff (drawn_staves s)))
       (subst (Contains (flat_map ranks (drawn_staves s))) (rank_at_place m.keys i (head_key a) call.keys.rise inside)
       (of_each (flat_map (own_columns m.keys lengths a b)) ranks key (key_rank m.keys key) (drawn_staves s)
       (each_holds key held (drawn_staves s) staves_inside) (staff_calls key held))))

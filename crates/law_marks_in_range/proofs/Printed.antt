@@ -53,4 +53,5 @@ pub staff_printed : (keys : List ColumnKey) (lengths : List ℕ) (a b : ℕ) (vo
     → AllByRecursion FitsVoice voices
     → AllByRecursion IsGood (staff_laid keys (verses_on voices) (slots_of_voices 0 lengths a b voices))
 staff_printed keys lengths a b voices fit =
-    let verses = verses_on voices in staff_all verses keys IsGood (all_good verses keys) lengths a b voices (omega arith) fit
+    let verses = verses_on voices in
+    staff_all verses keys IsGood (all_good verses keys) lengths a b voices (omega arith) fit
