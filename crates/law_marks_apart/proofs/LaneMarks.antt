@@ -11,7 +11,7 @@ use Rattle.mus_ink.specs.Signatures.{meter_marks}
 use Rattle.mus_drawn.specs.declared.drawn.DrawnVoice.{DrawnVoice}
 use Rattle.mus_slots.proofs.Marks.{FitsVoice, OfLaid, staff_all}
 use Rattle.mus_marks.specs.Staff.{staff_over, verses_on}
-use Rattle.mus_marks.specs.Staff.{slotted_staff}
+use Rattle.mus_marks.specs.Staff.{staff_marks}
 use Rattle.law_marks_apart.proofs.LaneGaps.{HasLane}
 
 module _ (verses : ℕ) where
@@ -39,11 +39,11 @@ module _ (verses : ℕ) where
 -- the lane of a mark of a staff
 pub lane_of : (keys : List ColumnKey) (lengths : List ℕ) (a b : ℕ) (voices : List DrawnVoice)
     → AllByRecursion FitsVoice voices
-    → (laid : Laid) → Contains (slotted_staff keys lengths a b voices).marks laid → HasLane (verses_on voices) laid.lane
-unfolding staff_over
+    → (laid : Laid) → Contains (staff_marks keys lengths a b voices).marks laid → HasLane (verses_on voices) laid.lane
+unfolding staff_marks staff_over
 lane_of keys lengths a b voices fit laid has =
     let verses = verses_on voices in
-    let all = (slotted_staff keys lengths a b voices).marks in
+    let all = (staff_marks keys lengths a b voices).marks in
     All-contains (IsLaned verses) all laid
     (All-from_recursion (IsLaned verses) all
     (staff_all verses keys (IsLaned verses) (all_laned verses keys) lengths a b voices (omega arith) fit))

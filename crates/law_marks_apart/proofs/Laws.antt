@@ -21,8 +21,7 @@ use Rattle.mus_slots.proofs.Marks.{FitsVoice}
 use Rattle.mus_marks.specs.Staff.{verses_on}
 use Rattle.mus_marks.specs.System.{drawn_staves, is_drawn_lower}
 use Rattle.mus_marks.proofs.Fitting.{staves_fit}
-use Rattle.mus_marks.specs.Staff.{slotted_staff}
-use Rattle.mus_marks.proofs.SystemSlots.{marks_are_slots}
+use Rattle.mus_marks.specs.Staff.{staff_marks}
 use Rattle.lay_springs.specs.declared.margin.Placed.{Placed}
 use Rattle.lay_springs.specs.Place.{length_at, reach_at}
 use Rattle.lay_reaches.specs.Columns.{column_reach}
@@ -84,9 +83,8 @@ module _ (s : Score) (width a b : ℕ) (m : SystemMarks) (p : Placed) (good : Is
   one_apart : (k : ℕ) (staff : StaffMarks)
       → slice_get m.staves k ≡ Some staff → AreMarksRanked (length m.keys) staff.marks → AreApart width p.at staff.marks
   one_apart k staff at ranked =
-      let marks = slotted_staff m.keys (timeline_of s).lengths a b in
-      let slots = is.staves ∙ marks_are_slots s (timeline_of s) a b m.keys refl good order within is.keys in
-      let voices = made_of marks (drawn_staves s) k staff (ap (λ staves. slice_get staves k) (sym slots) ∙ at) in
+      let marks = staff_marks m.keys (timeline_of s).lengths a b in
+      let voices = made_of marks (drawn_staves s) k staff (ap (λ staves. slice_get staves k) (sym is.staves) ∙ at) in
       let count = verses_on voices.0 in
       let fit = good_at (AllByRecursion FitsVoice) (drawn_staves s) k voices.0
       (All-from_recursion (AllByRecursion FitsVoice) (drawn_staves s) (staves_fit s good)) voices.1 in

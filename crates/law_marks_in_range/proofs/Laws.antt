@@ -26,13 +26,11 @@ use Rattle.mus_bridges.specs.Bridges.{bridges_of}
 use Rattle.mus_slots.specs.Staff.{staff_laid}
 use Rattle.mus_slots.specs.Voice.{slots_of_voices}
 use Rattle.mus_slots.proofs.Marks.{FitsVoice, all_mapped}
-use Rattle.mus_marks.specs.Staff.{staff_over, verses_on}
+use Rattle.mus_marks.specs.Staff.{staff_marks, staff_over, verses_on}
 use Rattle.mus_marks.specs.System.{IsCall, drawn_staves, is_drawn_lower}
 use Rattle.mus_marks.proofs.Fitting.{staves_fit}
 use Rattle.mus_marks.proofs.Groups.{grouped_all, grouped_whole}
-use Rattle.mus_marks.specs.Staff.{slotted_staff}
 use Rattle.mus_marks.proofs.Placed.{IsReady, all_ready}
-use Rattle.mus_marks.proofs.SystemSlots.{marks_are_slots}
 use Rattle.law_marks_in_range.specs.Ranks.{AreAnchored, IsRanked, marks_ranks, staves_ranks}
 use Rattle.law_marks_in_range.specs.Shown.{IsShown}
 use Rattle.law_marks_in_range.specs.Texts.{HasPrinted}
@@ -71,11 +69,7 @@ module _ (s : Score) (a b : ℕ) (m : SystemMarks) (good : IsGoodScore s) (rises
   lengths = (timeline_of s).lengths
 
   abbrev staff : List DrawnVoice → StaffMarks
-  staff = slotted_staff m.keys lengths a b
-
-  -- the marks of its staves are those of slots
-  staves_same : m.staves ≡ map staff (drawn_staves s)
-  staves_same = call.staves ∙ marks_are_slots s (timeline_of s) a b m.keys refl good rises within call.keys
+  staff = staff_marks m.keys lengths a b
 
   inside_all : (vs : List Voice)
       → AllByRecursion (IsReady m.keys lengths a b) (map drawn_voice vs)
@@ -105,9 +99,9 @@ module _ (s : Score) (a b : ℕ) (m : SystemMarks) (good : IsGoodScore s) (rises
       → AllByRecursion Q voices
       → AllByRecursion P (staff_laid m.keys (verses_on voices) (slots_of_voices 0 lengths a b voices)))
       → AllByRecursion (AllByRecursion Q) (drawn_staves s) → All (λ (t : StaffMarks). All P t.marks) m.staves
-  unfolding staff_over
+  unfolding staff_marks staff_over
   each_staff Q P holds known =
-      subst (All (λ (t : StaffMarks). All P t.marks)) (sym staves_same)
+      subst (All (λ (t : StaffMarks). All P t.marks)) (sym call.staves)
       (All-from_recursion (λ (t : StaffMarks). All P t.marks) (map staff (drawn_staves s))
       (along (drawn_staves s) known))
     where
@@ -126,7 +120,7 @@ module _ (s : Score) (a b : ℕ) (m : SystemMarks) (good : IsGoodScore s) (rises
       Contains (flat_map (own_columns m.keys lengths a b) voices) k
       → Contains (marks_ranks (staff voices).marks) (key_rank m.keys k))
       staves
-  unfolding staff_over
+  unfolding staff_marks staff_over
   each_holds k inside [] h = tt
   each_holds k inside (voices ∷ staves) h =
       (staff_holds m.keys lengths a b k (verses_on voices) voices h.0 inside, each_holds k inside staves h.1)
@@ -151,7 +145,7 @@ module _ (s : Score) (a b : ℕ) (m : SystemMarks) (good : IsGoodScore s) (rises
       found i (staves_ranks m.staves)
       (subst (λ ns. Contains ns i)
       (sym
-      (ap staves_ranks staves_same
+      (ap staves_ranks call.staves
       ∙ flat_map-map (λ (t : StaffMarks). marks_ranks t.marks) staff (drawn_staves s)))
       (subst (Contains (flat_map ranks (drawn_staves s))) (rank_at_place m.keys i (head_key a) call.keys.rise inside)
       (of_each (flat_map (own_columns m.keys lengths a b)) ranks key (key_rank m.keys key) (drawn_staves s)
@@ -159,7 +153,7 @@ module _ (s : Score) (a b : ℕ) (m : SystemMarks) (good : IsGoodScore s) (rises
 
   staves_some : 1 ≤ length s.voices → 1 ≤ length m.staves
   staves_some some =
-      subst (λ (staves : List StaffMarks). 1 ≤ length staves) (sym staves_same)
+      subst (λ (staves : List StaffMarks). 1 ≤ length staves) (sym call.staves)
       (by (drawn_staves s) (grouped_whole is_drawn_lower (map drawn_voice s.voices)))
     where
       by : (staves : List (List DrawnVoice))

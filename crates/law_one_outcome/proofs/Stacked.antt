@@ -18,8 +18,9 @@ use Rattle.mus_laid.specs.Boxes.{staff_heights}
 use Rattle.mus_laid.specs.Ranked.{by_columns}
 use Rattle.mus_ink.specs.Drawing.{cut_dy}
 use Rattle.mus_drawn.specs.declared.drawn.DrawnVoice.{DrawnVoice}
-use Rattle.mus_marks.specs.Staff.{CoversLines, bare_marks, room_over, staff_bridges, staff_marks, staff_over}
-use Rattle.mus_marks.specs.Staff.{written_parts, verses_on}
+use Rattle.mus_slots.specs.Staff.{staff_laid}
+use Rattle.mus_slots.specs.Voice.{slots_of_voices}
+use Rattle.mus_marks.specs.Staff.{CoversLines, staff_marks, staff_over, verses_on}
 use Rattle.mus_marks.specs.System.{drawn_staves}
 use Rattle.mus_marks.specs.Tilt.{IsTilted, tilted_staff, voice_tilted}
 use Rattle.mus_marks.proofs.Lines.{covers}
@@ -51,10 +52,7 @@ sound : (keys : List ColumnKey) (lengths : List ℕ) (a b : ℕ) (vs : List Draw
     → IsSound (staff_marks keys lengths a b vs)
 unfolding staff_marks
 sound keys lengths a b vs =
-    over_sound
-    (by_columns (length keys)
-    (written_parts keys lengths (room_over (verses_on vs) (bare_marks keys lengths a b vs)) a b 0 [] vs)
-    ++ staff_bridges keys lengths a b vs)
+    over_sound (staff_laid keys (verses_on vs) (slots_of_voices 0 lengths a b vs))
 
 all_sound : (keys : List ColumnKey) (lengths : List ℕ) (at : List ℤ) (a b : ℕ) (staves : List (List DrawnVoice))
     → AllByRecursion IsSound (map (tilted_staff keys lengths at a b) staves)

@@ -40,11 +40,10 @@ use Rattle.mus_slots.specs.Voice.{change_slots, columns_slots, event_slots, even
 use Rattle.mus_slots.specs.Voice.{keys_of, levels_after, levels_in, measures_slots, meter_shown, slot, slot_if}
 use Rattle.mus_slots.specs.Voice.{slots_of_voices, voice_slots}
 use Rattle.mus_slots.proofs.Filled.{no_marks}
-use Rattle.mus_marks.specs.Staff.{staff_marks, verses_on}
+use Rattle.mus_marks.specs.Staff.{staff_marks, staff_over, verses_on}
 use Rattle.mus_marks.specs.Tilt.{sloped_over, voice_tilted}
-use Rattle.mus_marks.proofs.Columns.{IsSlotted, slots_inside, slots_rise}
+use Rattle.mus_marks.proofs.Columns.{slots_inside, slots_rise}
 use Rattle.mus_marks.proofs.Placed.{IsReady, all_ready}
-use Rattle.mus_marks.proofs.StaffSlots.{staff_same}
 use Rattle.mus_marks.proofs.Tilted.{ended_slotted}
 use Rattle.ps_heard.specs.declared.column.HeardColumn.{HeardColumn}
 use Rattle.ps_heard.specs.declared.column.HeardGlyph.{HeardGlyph}
@@ -279,15 +278,14 @@ system_known keys lengths place a b seat first now prev (x ∷ xs) (d ∷ ds) mo
 
 -- the marks of one voice, by its slots
 alone_marks : (keys : List ColumnKey) (lengths : List ℕ) (a b : ℕ) (w : DrawnVoice)
-    → Rises keys → IsSlotted keys lengths a b w
     → (place : TextPlace)
     × ((staff_marks keys lengths a b (w ∷ [])).marks
     ≡ flat_map (column_at keys place (voice_slots 0 lengths a b w ∷ [])) keys
     ++ bridges_at keys (slots_of_voices 0 lengths a b (w ∷ [])))
-unfolding staff_laid
-alone_marks keys lengths a b w rise slotted = (
+unfolding staff_marks staff_laid staff_over
+alone_marks keys lengths a b w = (
   place_outside (verses_on (w ∷ [])) (bare_laid keys (slots_of_voices 0 lengths a b (w ∷ []))),
-  staff_same keys lengths a b (w ∷ []) rise (slotted, tt),
+  refl,
 )
 
 each_mapped : {A B : Type 0} (P : B → Type 0) (f : A → B) (xs : List A)
@@ -319,7 +317,7 @@ staff_known s v keys at a b good has alone rise within are =
     (all_ready s (timeline_of s) a b keys refl good rise within are))) has in
     let slotted = ended_slotted keys lengths a b (sloped_over keys at a (slice_range d.measures a b)) d ready.some
     ready.seated ready.fits ready.slotted in
-    let marks = alone_marks keys lengths a b w are.rise slotted in
+    let marks = alone_marks keys lengths a b w in
     ap (λ t. columns_heard (ranked_columns (length keys) t)) marks.1
     ∙ system_known keys lengths marks.0 a b v.seat v.first _ prev (take n xs) (take n ds) (drop n ds) bridges
     (ap is_lower alone) (omega (arith, long, rise, within, length-drop a v.measures, length-take n xs))

@@ -32,7 +32,7 @@ use Rattle.mus_marks.specs.System.{drawn_staves}
 use Rattle.mus_marks.proofs.Fitting.{staves_fit}
 use Rattle.mus_marks.proofs.Inside.{here, none_there}
 use Rattle.mus_marks.proofs.OneList.{first_or}
-use Rattle.mus_marks.proofs.Parts.{Fits, FitsMeasure, FitsVoice, measures_all, voice_all}
+use Rattle.mus_marks.proofs.Parts.{columns_all, Fits, FitsMeasure, FitsVoice, measures_all}
 use Rattle.mus_marks.proofs.GoodMarks.{goods, IsGood}
 use Rattle.mus_marks.proofs.VoiceSlots.{columns_laid, measures_laid}
 use Rattle.lay_reaches.specs.declared.column.Column.{Column}
@@ -186,8 +186,9 @@ module _ (keys : List ColumnKey) (lengths : List ℕ) (m : ℕ) where
 
       by : (begins : Bool) → AllByRecursion IsGood (own_laid begins keys lengths m first v)
       by true =
-          voice_all (first + v.verses) keys IsGood (goods (first + v.verses) keys) lengths (Some (fixed_place first)) m
-          (m + 1) v last fits
+          columns_all (first + v.verses) keys IsGood (goods (first + v.verses) keys) v.verses lengths
+          (Some (fixed_place first)) m v.seat v.first (slice_range v.measures m (m + 1)) last
+          (sliced v.verses m v.measures fits)
       by false =
           measures_all (first + v.verses) keys IsGood (goods (first + v.verses) keys) v.verses lengths
           (Some (fixed_place first)) m false (slice_range v.measures m (m + 1)) last

@@ -24,7 +24,6 @@ use Rattle.mus_slots.proofs.Ranges.{voice_more}
 use Rattle.mus_marks.specs.System.{IsCall, drawn_staves, is_drawn_lower}
 use Rattle.mus_marks.proofs.Groups.{grouped_all}
 use Rattle.mus_marks.proofs.OneList.{same_keys}
-use Rattle.mus_marks.proofs.SystemSlots.{marks_are_slots}
 use Rattle.lay_reaches.specs.declared.column.Column.{Column}
 use Rattle.lay_reaches.specs.Columns.{columns_of}
 use Rattle.lay_reaches.proofs.Keyed.{keyed_append}
@@ -161,8 +160,7 @@ module _ (s : Score) (good : IsGoodScore s) (a : ℕ) (verses : List ℕ) where
       → a < b → b ≤ s.measures → IsCall s (timeline_of s) a b m → AreColumns s a b verses columns
       → columns_of m.keys m.staves (ticks s) verses ≡ columns
   system_columns b m columns order within call (keys, are, value) =
-      ap (λ t. columns_of m.keys t (ticks s) verses)
-      (call.staves ∙ marks_are_slots s (timeline_of s) a b m.keys refl good order within call.keys)
+      ap (λ t. columns_of m.keys t (ticks s) verses) call.staves
       ∙ system_keyed m.keys (ticks s) a b call.keys.rise (drawn_staves s) verses
       ∙ ap (λ ks. columns_by s (range_slots true (ticks s) a b) ks verses)
       (same_keys m.keys keys (called_keys s (ticks s) a b) call.keys are)

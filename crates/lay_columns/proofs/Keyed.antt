@@ -23,11 +23,10 @@ use Rattle.mus_slots.specs.Staff.{all_slots, column_slots, slots_at}
 use Rattle.mus_slots.specs.Voice.{keys_of, range_slots, slots_of_voices, voice_slots}
 use Rattle.mus_slots.proofs.KeysOf.{IsSeated, range_keyed}
 use Rattle.mus_slots.proofs.Ranges.{slice_long}
-use Rattle.mus_marks.specs.Staff.{staff_over, verses_on}
 use Rattle.mus_marks.specs.System.{drawn_staves, is_drawn_lower}
 use Rattle.mus_marks.proofs.Groups.{grouped_all}
 use Rattle.mus_marks.proofs.Inside.{AreAmong, among_left, among_right, here, there}
-use Rattle.mus_marks.specs.Staff.{slotted_staff}
+use Rattle.mus_marks.specs.Staff.{staff_marks, staff_over, verses_on}
 use Rattle.mus_marks.proofs.Placed.{voice_seated}
 use Rattle.lay_reaches.specs.declared.column.Column.{Column}
 use Rattle.lay_reaches.specs.Columns.{columns_of}
@@ -191,13 +190,13 @@ voices_at lengths a b k first (v ∷ vs) =
 
 module _ (keys : List ColumnKey) (lengths : List ℕ) (a b : ℕ) (rise : Rises keys) where
   abbrev staff : List DrawnVoice → StaffMarks
-  staff = slotted_staff keys lengths a b
+  staff = staff_marks keys lengths a b
 
   abbrev boxes : List DrawnVoice → ColumnKey → ℕ → List Sides
   boxes = key_boxes (range_slots true lengths a b)
 
   slotted_boxes : (vs : List DrawnVoice) → HasBoxes keys (staff vs).marks (boxes vs)
-  unfolding staff_over
+  unfolding staff_marks staff_over
   slotted_boxes vs k lane has =
       staff_boxes keys k lane (verses_on vs) (slots_of_voices 0 lengths a b vs) rise has
       ∙ ap (slots_boxes lane) (voices_at lengths a b k 0 vs)
@@ -208,6 +207,6 @@ module _ (keys : List ColumnKey) (lengths : List ℕ) (a b : ℕ) (rise : Rises 
   all_slotted (vs ∷ staves) = (slotted_boxes vs, all_slotted staves)
 
   pub system_keyed : (staves : List (List DrawnVoice)) (verses : List ℕ)
-      → columns_of keys (map (slotted_staff keys lengths a b) staves) lengths verses
+      → columns_of keys (map (staff_marks keys lengths a b) staves) lengths verses
       ≡ key_columns (range_slots true lengths a b) keys staves lengths verses
   system_keyed staves verses = columns_keyed lengths staff boxes keys staves verses rise (all_slotted staves)

@@ -1,26 +1,24 @@
 -- Other ends of stems change only heights: a drawn voice's marks have the shapes that they have with all ends at 0.
 -- So tilted marks are those that are called for, except for their heights.
-use Rattle.std.proofs.Common.{◌≡◌, ◌∙◌, ℕ, zero, suc, ℤ, pos, ◌+◌, ◌-◌, max, sum, Bool, true, false, ◌&&◌, ◌||◌, ◌==◌}
+use Rattle.std.proofs.Common.{◌≡◌, ◌∙◌, ℕ, zero, suc, ℤ, pos, ◌+◌, ◌-◌, max, Bool, true, false, not, ◌&&◌, ◌||◌, ◌==◌}
 use Rattle.std.proofs.Common.{nat_lt, if◌then◌else◌, cond, List, [], ◌∷◌, ◌++◌, length, map, take, drop, Option, Some}
 use Rattle.std.proofs.Common.{None, refl, sym, ap, subst}
 use Rattle.std.proofs.lemmas.List.{drop-map, map-append, take-map}
-use Rattle.std.proofs.lemmas.List.Sums.{sum_by-cons}
 use Rattle.std.proofs.lemmas.Option.{slice_get-map}
 use Rattle.std.proofs.lemmas.Simd.{map-map}
-use Rattle.std.specs.List.{All, AllByRecursion, count_by, filter, find, flat_map, range_with_len, slice_get}
-use Rattle.std.specs.List.{slice_index_or, slice_range}
+use Rattle.std.specs.List.{All, AllByRecursion, find, flat_map, slice_get}
+use Rattle.std.specs.List.{slice_range}
 use Rattle.std.specs.Option.{option_map}
 use Rattle.mus_units.specs.declared.{glyph.Glyph.Glyph, note.Bar.Bar, note.Deco.Deco, note.Head.Head, pitch.Clef.Clef}
 use Rattle.mus_score.specs.declared.score.Event.{Event}
-use Rattle.mus_score.specs.declared.score.Flat.{Flat}
 use Rattle.mus_score.specs.declared.score.Score.{Score}
 use Rattle.mus_score.specs.declared.score.Seat.{Seat}
 use Rattle.mus_score.specs.GoodScore.{IsGoodScore}
 use Rattle.mus_score.specs.Seats.{is_lower}
 use Rattle.mus_onsets.specs.declared.keys.ColumnKey.{ColumnKey}
-use Rattle.mus_onsets.specs.Order.{same_key}
+use Rattle.mus_onsets.specs.Order.{key_rank, same_key}
 use Rattle.mus_onsets.specs.declared.times.Timeline.{Timeline}
-use Rattle.mus_onsets.specs.Keys.{called_keys}
+use Rattle.mus_onsets.specs.Keys.{bar_key, called_keys}
 use Rattle.mus_arcs.specs.declared.cutting.Piece.{Piece}
 use Rattle.mus_arcs.specs.declared.pairing.Arc.{Arc}
 use Rattle.mus_arcs.specs.Pieces.{piece_of}
@@ -29,13 +27,14 @@ use Rattle.mus_stems.specs.Slope.{with_end}
 use Rattle.mus_laid.specs.declared.drawn.Bridge.{Bridge}
 use Rattle.mus_laid.specs.declared.drawn.LaneInk.{LaneInk}
 use Rattle.mus_laid.specs.declared.laid.Laid.{Laid}
-use Rattle.mus_laid.specs.declared.laid.Mark.{Mark}
 use Rattle.mus_laid.specs.declared.laid.SystemMarks.{SystemMarks}
 use Rattle.mus_laid.specs.declared.laid.Lane.{Lane}
 use Rattle.mus_laid.specs.Printed.{printed}
-use Rattle.mus_laid.specs.Ranked.{anchor_rank, at_rank, bridge_at, by_columns, drawn_at, is_rank, stands_at_rank}
-use Rattle.mus_laid.specs.Shapes.{HaveSameShapes, laid_shape, mark_shape, marks_shape, staff_shape}
+use Rattle.mus_laid.specs.Ranked.{bridge_at, drawn_at}
+use Rattle.mus_laid.specs.Shapes.{HaveSameShapes, laid_shape, marks_shape, staff_shape}
 use Rattle.mus_laid.specs.Boxes.{AreGoodMarks}
+use Rattle.mus_ink.specs.Bars.{bar_marks}
+use Rattle.mus_ink.specs.Graces.{group_of}
 use Rattle.mus_ink.specs.Decos.{after_deco, body_marks, deco_mark, deco_marks, first_deco, next_deco, note_marks}
 use Rattle.mus_ink.specs.Decos.{top_of}
 use Rattle.mus_ink.specs.Distances.{half_character}
@@ -44,9 +43,10 @@ use Rattle.mus_ink.specs.Kinds.{deco_glyph, flag_glyph, stub_glyph}
 use Rattle.mus_ink.specs.Notes.{heads_marks}
 use Rattle.mus_ink.specs.Stems.{flag_dy, flag_marks, flags_or_stubs, lower_edge, stem_dx, stem_if, stem_marks}
 use Rattle.mus_ink.specs.Stems.{stub_marks}
+use Rattle.mus_words.specs.declared.texts.TextPlace.{TextPlace}
 use Rattle.mus_words.specs.Arcs.{arc_mark, slur_mark, tie_mark}
 use Rattle.mus_words.specs.Syllables.{syllable_dx, syllable_if, syllables_from, verse_dy}
-use Rattle.mus_words.specs.Texts.{above_dy, above_from, below_dy, below_from, text_marks, texts_above, texts_below}
+use Rattle.mus_words.specs.Texts.{above_dy, above_from, below_dy, below_from}
 use Rattle.mus_words.specs.Words.{words}
 use Rattle.mus_drawn.specs.declared.drawn.DrawnEvent.{DrawnEvent}
 use Rattle.mus_drawn.specs.declared.drawn.DrawnMeasure.{DrawnMeasure}
@@ -58,15 +58,15 @@ use Rattle.mus_bridges.specs.Beams.{levels_before, levels_from, stem_of, way_of}
 use Rattle.mus_bridges.specs.Arcs.{arc_between, arc_in, arcs_between, event_at, event_in, has_id, left_key}
 use Rattle.mus_bridges.specs.Arcs.{piece_between, right_key, seen_of}
 use Rattle.mus_bridges.specs.Bridges.{beams_between, bridges_of, event_grace_beam, grace_beams_between, beam_stem_at}
-use Rattle.mus_marks.specs.Events.{bar_part, change_part, event_marks, events_marks, graces_part, levels_after}
-use Rattle.mus_marks.specs.Events.{levels_in, measures_marks, no_texts, note_part, note_rank, text_place, words_marks}
-use Rattle.mus_marks.specs.Events.{words_part}
-use Rattle.mus_marks.specs.Staff.{bare_marks, columns_part, first_bar_part, head_part, is_above, is_below_staff}
-use Rattle.mus_marks.specs.Staff.{is_words, own_part, room_over, staff_marks, staff_over, text_above, text_below}
-use Rattle.mus_marks.specs.Staff.{texts_after, texts_with, verses_on, written_parts}
-use Rattle.mus_marks.specs.declared.events.WordRoom.{WordRoom}
-use Rattle.mus_marks.specs.declared.events.StaffRoom.{StaffRoom}
-use Rattle.mus_marks.specs.declared.events.TextCounts.{TextCounts}
+use Rattle.mus_slots.specs.declared.slots.Slot.{Slot}
+use Rattle.mus_slots.specs.declared.slots.VoiceSlots.{VoiceSlots}
+use Rattle.mus_slots.specs.declared.slots.Written.{Written}
+use Rattle.mus_slots.specs.Staff.{all_slots, bare_laid, column_at, column_marks, column_slots, place_after}
+use Rattle.mus_slots.specs.Staff.{place_outside, slots_at, staff_laid, written_marks}
+use Rattle.mus_slots.specs.Voice.{change_slots, columns_slots, event_slots, events_slots, first_slots, grace_slots}
+use Rattle.mus_slots.specs.Voice.{head_slots, levels_after, levels_in, measures_slots, note_slot, slot_if}
+use Rattle.mus_slots.specs.Voice.{slots_of_voices, voice_slots}
+use Rattle.mus_marks.specs.Staff.{staff_marks, staff_over, verses_on}
 use Rattle.mus_marks.specs.System.{IsCall, drawn_staves}
 use Rattle.mus_marks.specs.Tilt.{IsTilted, tilted_staff, voice_tilted}
 use Rattle.mus_marks.proofs.Ending.{flat_event, flat_measure, ended_fits, flat_voice}
@@ -160,64 +160,63 @@ module _ (r : ℕ) where
   syllables y z n (w ∷ ws) =
       joined shape (syllable_if y n w) _ (syllable_if z n w) _ (syllable_of y z n w) (syllables y z (n + 1) ws)
 
-  aboves : (y z : ℤ) (k : ℕ) (ts : List (List ℕ)) → map shape (above_from y k ts) ≡ map shape (above_from z k ts)
-  aboves y z k [] = refl
-  aboves y z k (t ∷ ts) =
-      ap (λ u. shape (words Lane.Above (back half_character) (above_dy y k) t) ∷ u) (aboves y z (k + 1) ts)
+  aboves : (y z : ℤ) (j k : ℕ) (ts : List (List ℕ)) → map shape (above_from y j ts) ≡ map shape (above_from z k ts)
+  aboves y z j k [] = refl
+  aboves y z j k (t ∷ ts) =
+      ap (λ u. shape (words Lane.Above (back half_character) (above_dy y j) t) ∷ u) (aboves y z (j + 1) (k + 1) ts)
 
-  belows : (y z : ℤ) (verses k : ℕ) (ts : List (List ℕ))
-      → map shape (below_from y verses k ts) ≡ map shape (below_from z verses k ts)
-  belows y z verses k [] = refl
-  belows y z verses k (t ∷ ts) =
-      ap (λ u. shape (words lanes.Below (back half_character) (below_dy y verses k) t) ∷ u)
-      (belows y z verses (k + 1) ts)
+  belows : (y z : ℤ) (n o j k : ℕ) (ts : List (List ℕ))
+      → map shape (below_from y n j ts) ≡ map shape (below_from z o k ts)
+  belows y z n o j k [] = refl
+  belows y z n o j k (t ∷ ts) =
+      ap (λ u. shape (words lanes.Below (back half_character) (below_dy y n j) t) ∷ u)
+      (belows y z n o (j + 1) (k + 1) ts)
 
-abbrev no_room : ℕ → StaffRoom
-no_room verses = record { low = pos 0; high = pos 0; verses = verses }
+  written : (p q : TextPlace) (w : Written) → map shape (written_marks p w) ≡ map shape (written_marks q w)
+  written p q w =
+      joined shape (syllables_from p.low w.first w.syllables)
+      (above_from p.high p.above w.above ++ below_from p.low p.verses p.below w.below)
+      (syllables_from q.low w.first w.syllables) _ (syllables p.low q.low w.first w.syllables)
+      (joined shape (above_from p.high p.above w.above) (below_from p.low p.verses p.below w.below)
+      (above_from q.high q.above w.above) _ (aboves p.high q.high p.above q.above w.above)
+      (belows p.low q.low p.verses q.verses p.below q.below w.below))
 
-abbrev unplaced : WordRoom → WordRoom
-unplaced place = record place { room = no_room place.room.verses }
+-- ---- slots of one shape, in the same columns and with the same words
+record IsAlike (s u : Slot) : Type 0 where
+  key : s.key ≡ u.key
+  words : s.written ≡ u.written
+  drawn : (r : ℕ) → map (shape r) s.drawn ≡ map (shape r) u.drawn
 
-all_words : (r : ℕ) (place : WordRoom) (f : Flat)
-    → map (shape r) (words_marks (Some place) r f) ≡ map (shape r) (words_marks (Some (unplaced place)) r f)
-unfolding text_marks
-all_words r place f =
-    let room = place.room in let none = no_room room.verses in let t = slice_index_or place.before r no_texts in
-    joined (shape r) (syllables_from room.low place.first f.event.words) (text_marks (text_place room t) f)
-    (syllables_from (pos 0) place.first f.event.words) (text_marks (text_place none t) f)
-    (syllables r room.low (pos 0) place.first f.event.words)
-    (joined (shape r) (above_from room.high t.above (texts_above f))
-    (below_from room.low room.verses t.below (texts_below f)) (above_from (pos 0) t.above (texts_above f))
-    (below_from (pos 0) room.verses t.below (texts_below f))
-    (aboves r room.high (pos 0) t.above (texts_above f))
-    (belows r room.low (pos 0) room.verses t.below (texts_below f)))
+abbrev AreAlike : List Slot → List Slot → Type 0
+AreAlike [] [] = Unit {0}
+AreAlike (s ∷ ss) (u ∷ us) = IsAlike s u × AreAlike ss us
+AreAlike ss us = ⊥
 
--- ---- the columns of a voice
-module _ (keys : List ColumnKey) (place : WordRoom) where
-  abbrev none : WordRoom
-  none = unplaced place
+alike_join : (xs us ys vs : List Slot) → AreAlike xs us → AreAlike ys vs → AreAlike (xs ++ ys) (us ++ vs)
+alike_join [] [] ys vs p q = q
+alike_join (x ∷ xs) (u ∷ us) ys vs p q = (p.0, alike_join xs us ys vs p.1 q)
+alike_join [] (u ∷ us) ys vs p q = absurd p
+alike_join (x ∷ xs) [] ys vs p q = absurd p
 
-  change : (m : ℕ) (in_head : Bool) (e : DrawnEvent)
-      → change_part keys m in_head e ≡ change_part keys m in_head (flat_event e)
-  change m true e = refl
-  change m false e = refl
+alike_self : (ss : List Slot) → AreAlike ss ss
+alike_self [] = tt
+alike_self (s ∷ ss) = (record { key = refl; words = refl; drawn = λ r. refl }, alike_self ss)
 
+module _ (first : ℕ) where
   event : (m : ℕ) (in_head : Bool) (before after : ℕ) (e : DrawnEvent)
-      → marks_shape (event_marks keys (Some place) m in_head before after e)
-      ≡ marks_shape (event_marks keys (Some none) m in_head before after (flat_event e))
-  unfolding event_marks
+      → AreAlike (event_slots first m in_head before after e) (event_slots first m in_head before after (flat_event e))
   event m in_head before after e =
-      let r = note_rank keys m e in
-      let drawn = in_head || is_lower e.seat in
-      let prefix = change_part keys m drawn (flat_event e) ++ graces_part keys m e in
-      joined laid_shape (change_part keys m drawn e ++ graces_part keys m e ++ note_part keys m before after e)
-      (words_part r (Some place) e.flat) (prefix ++ note_part keys m before after (flat_event e))
-      (words_part r (Some none) e.flat)
-      (joined laid_shape (change_part keys m drawn e ++ graces_part keys m e) (note_part keys m before after e) prefix
-      (note_part keys m before after (flat_event e))
-      (ap (λ t. marks_shape (t ++ graces_part keys m e)) (change m drawn e))
-      (ranked r _ _ (note r e.clef (raise_of e.seat) e.flat.event e.plan (pos 0) before after)))
-      (ranked r _ _ (all_words r place e.flat))
+      let other = change_slots m (in_head || is_lower e.seat) e
+      ++ grace_slots m e.tick e.clef (group_of e.clef e.flat.graces e.flat.slash) 0 e.flat.graces in
+      alike_join other other (note_slot first m before after e ∷ [])
+      (note_slot first m before after (flat_event e) ∷ []) (alike_self other) (
+        record {
+          key = refl;
+          words = refl;
+          drawn = λ r. note r e.clef (raise_of e.seat) e.flat.event e.plan (pos 0) before after;
+        },
+        tt,
+      )
 
   following : (p : StemPlan) (es : List DrawnEvent)
       → levels_after p es ≡ levels_after (with_end p (pos 0)) (map flat_event es)
@@ -225,140 +224,78 @@ module _ (keys : List ColumnKey) (place : WordRoom) where
   following p (e ∷ es) = refl
 
   events : (m : ℕ) (in_head : Bool) (group flags : ℕ) (es : List DrawnEvent)
-      → marks_shape (events_marks keys (Some place) m in_head group flags es)
-      ≡ marks_shape (events_marks keys (Some none) m in_head group flags (map flat_event es))
-  events m in_head group flags [] = refl
+      → AreAlike (events_slots first m in_head group flags es)
+      (events_slots first m in_head group flags (map flat_event es))
+  events m in_head group flags [] = tt
   events m in_head group flags (e ∷ es) =
-      joined laid_shape
-      (event_marks keys (Some place) m in_head (levels_in e.plan group flags) (levels_after e.plan es) e)
-      (events_marks keys (Some place) m false e.plan.group e.plan.flags es) _ _
-      (event m in_head (levels_in e.plan group flags) (levels_after e.plan es) e
-      ∙ ap (λ n. marks_shape (event_marks keys (Some none) m in_head (levels_in e.plan group flags) n (flat_event e)))
-      (following e.plan es))
+      let before = levels_in e.plan group flags in
+      alike_join (event_slots first m in_head before (levels_after e.plan es) e)
+      (event_slots first m in_head before (levels_after (with_end e.plan (pos 0)) (map flat_event es)) (flat_event e))
+      (events_slots first m false e.plan.group e.plan.flags es)
+      (events_slots first m false e.plan.group e.plan.flags (map flat_event es))
+      (subst (λ n.
+      AreAlike (event_slots first m in_head before (levels_after e.plan es) e)
+      (event_slots first m in_head before n (flat_event e)))
+      (following e.plan es)
+      (event m in_head before (levels_after e.plan es) e))
       (events m false e.plan.group e.plan.flags es)
 
   measures : (lengths : List ℕ) (m : ℕ) (in_head : Bool) (ds : List DrawnMeasure)
-      → marks_shape (measures_marks keys lengths (Some place) m in_head ds)
-      ≡ marks_shape (measures_marks keys lengths (Some none) m in_head (map flat_measure ds))
-  measures lengths m in_head [] = refl
+      → AreAlike (measures_slots first lengths m in_head ds)
+      (measures_slots first lengths m in_head (map flat_measure ds))
+  measures lengths m in_head [] = tt
   measures lengths m in_head (d ∷ ds) =
-      joined laid_shape (events_marks keys (Some place) m in_head 0 0 d.events ++ bar_part keys lengths m d)
-      (measures_marks keys lengths (Some place) (m + 1) false ds) _ _
-      (joined laid_shape (events_marks keys (Some place) m in_head 0 0 d.events) (bar_part keys lengths m d)
-      (events_marks keys (Some none) m in_head 0 0 (map flat_event d.events)) _ (events m in_head 0 0 d.events) refl)
+      let bar = slot_if (not (is_lower d.seat)) (bar_key lengths m) (bar_marks d.bar) in
+      alike_join (events_slots first m in_head 0 0 d.events ++ bar)
+      (events_slots first m in_head 0 0 (map flat_event d.events) ++ bar)
+      (measures_slots first lengths (m + 1) false ds) (measures_slots first lengths (m + 1) false (map flat_measure ds))
+      (alike_join (events_slots first m in_head 0 0 d.events)
+      (events_slots first m in_head 0 0 (map flat_event d.events)) bar bar (events m in_head 0 0 d.events)
+      (alike_self bar))
       (measures lengths (m + 1) false ds)
 
-  head : (a : ℕ) (ds : List DrawnMeasure) → head_part keys a ds ≡ head_part keys a (map flat_measure ds)
-  head a [] = refl
-  head a (d ∷ ds) = refl
+  head : (a : ℕ) (ds : List DrawnMeasure) → AreAlike (head_slots a ds) (head_slots a (map flat_measure ds))
+  head a [] = tt
+  head a (d ∷ ds) = alike_self (head_slots a (d ∷ []))
 
-  columns : (lengths : List ℕ) (a : ℕ) (seat : Seat) (first : Bar) (ds : List DrawnMeasure)
-      → marks_shape (columns_part keys lengths (Some place) a seat first ds)
-      ≡ marks_shape (columns_part keys lengths (Some none) a seat first (map flat_measure ds))
-  unfolding columns_part
-  columns lengths a seat first ds =
-      joined laid_shape (head_part keys a ds ++ first_bar_part keys a seat first)
-      (measures_marks keys lengths (Some place) a true ds)
-      (head_part keys a (map flat_measure ds) ++ first_bar_part keys a seat first) _
-      (ap (λ t. marks_shape (t ++ first_bar_part keys a seat first)) (head a ds)) (measures lengths a true ds)
+  columns : (lengths : List ℕ) (a : ℕ) (seat : Seat) (bar : Bar) (ds : List DrawnMeasure)
+      → AreAlike (columns_slots first lengths a seat bar ds)
+      (columns_slots first lengths a seat bar (map flat_measure ds))
+  columns lengths a seat bar ds =
+      let start = first_slots a seat bar in
+      alike_join (head_slots a ds ++ start) (head_slots a (map flat_measure ds) ++ start)
+      (measures_slots first lengths a true ds) (measures_slots first lengths a true (map flat_measure ds))
+      (alike_join (head_slots a ds) (head_slots a (map flat_measure ds)) start start (head a ds) (alike_self start))
+      (measures lengths a true ds)
 
--- ---- columns and texts depend only on the shape of marks
-rank_shaped : (m : Mark) → anchor_rank (mark_shape m) ≡ anchor_rank m
-rank_shaped (Mark.Glyph glyph rank dx dy) = refl
-rank_shaped (Mark.Words size rank dx dy text) = refl
-rank_shaped (Mark.Stem rank dx from to) = refl
-rank_shaped (Mark.Beam way first last from to) = refl
-rank_shaped (Mark.Arc first last from to bulge) = refl
+-- ---- their columns
+column_alike : (r : ℕ) (p q : TextPlace) (ss us : List Slot)
+    → AreAlike ss us → map (shape r) (column_marks p ss) ≡ map (shape r) (column_marks q us)
+column_alike r p q [] [] h = refl
+column_alike r p q (s ∷ ss) (u ∷ us) h =
+    joined (shape r) (s.drawn ++ written_marks p s.written) (column_marks (place_after p s.written) ss)
+    (u.drawn ++ written_marks q u.written) (column_marks (place_after q u.written) us)
+    (joined (shape r) s.drawn (written_marks p s.written) u.drawn (written_marks q u.written) (h.0.drawn r)
+    (ap (λ w. map (shape r) (written_marks p w)) h.0.words ∙ written r p q u.written))
+    (column_alike r (place_after p s.written) (place_after q u.written) ss us h.1)
+column_alike r p q [] (u ∷ us) h = absurd h
+column_alike r p q (s ∷ ss) [] h = absurd h
 
-words_shaped : (m : Mark) → is_words (mark_shape m) ≡ is_words m
-words_shaped (Mark.Glyph glyph rank dx dy) = refl
-words_shaped (Mark.Words size rank dx dy text) = refl
-words_shaped (Mark.Stem rank dx from to) = refl
-words_shaped (Mark.Beam way first last from to) = refl
-words_shaped (Mark.Arc first last from to bulge) = refl
-
-stands_shaped : (r : ℕ) (x : Laid) → stands_at_rank r (laid_shape x) ≡ stands_at_rank r x
-stands_shaped r x = ap (is_rank r) (rank_shaped x.mark)
-
-filter_shaped : (r : ℕ) (xs : List Laid)
-    → marks_shape (filter (stands_at_rank r) xs) ≡ filter (stands_at_rank r) (marks_shape xs)
-filter_shaped r [] = refl
-filter_shaped r (x ∷ xs) =
-    by (stands_at_rank r x) (filter_shaped r xs)
-    ∙ ap (λ b.
-    cond b (laid_shape x ∷ filter (stands_at_rank r) (marks_shape xs)) (filter (stands_at_rank r) (marks_shape xs)))
-    (sym (stands_shaped r x))
+at_alike : (k : ColumnKey) (ss us : List Slot) → AreAlike ss us → AreAlike (slots_at k ss) (slots_at k us)
+at_alike k [] [] h = tt
+at_alike k (s ∷ ss) (u ∷ us) h =
+    subst (λ l.
+    AreAlike (cond (same_key s.key k) (s ∷ slots_at k ss) (slots_at k ss))
+    (cond (same_key l k) (u ∷ slots_at k us) (slots_at k us)))
+    h.0.key
+    (by (same_key s.key k) (at_alike k ss us h.1))
   where
-    by : (b : Bool) → marks_shape (filter (stands_at_rank r) xs) ≡ filter (stands_at_rank r) (marks_shape xs)
-        → marks_shape (cond b (x ∷ filter (stands_at_rank r) xs) (filter (stands_at_rank r) xs))
-        ≡ cond b (laid_shape x ∷ filter (stands_at_rank r) (marks_shape xs))
-        (filter (stands_at_rank r) (marks_shape xs))
-    by true more = ap (λ t. laid_shape x ∷ t) more
+    by : (b : Bool) → AreAlike (slots_at k ss) (slots_at k us)
+        → AreAlike (cond b (s ∷ slots_at k ss) (slots_at k ss)) (cond b (u ∷ slots_at k us) (slots_at k us))
+    by true more = (h.0, more)
     by false more = more
-
-at_shaped : (r : ℕ) (parts : List (List Laid)) → marks_shape (at_rank parts r) ≡ at_rank (map marks_shape parts) r
-at_shaped r [] = refl
-at_shaped r (part ∷ parts) =
-    map-append laid_shape (filter (stands_at_rank r) part) (at_rank parts r)
-    ∙ ap (λ t. t ++ marks_shape (at_rank parts r)) (filter_shaped r part)
-    ∙ ap (λ t. filter (stands_at_rank r) (marks_shape part) ++ t) (at_shaped r parts)
-
-ranks_shaped : (parts : List (List Laid)) (ns : List ℕ)
-    → marks_shape (flat_map (at_rank parts) ns) ≡ flat_map (at_rank (map marks_shape parts)) ns
-ranks_shaped parts [] = refl
-ranks_shaped parts (n ∷ ns) =
-    map-append laid_shape (at_rank parts n) (flat_map (at_rank parts) ns)
-    ∙ ap (λ t. t ++ marks_shape (flat_map (at_rank parts) ns)) (at_shaped n parts)
-    ∙ ap (λ t. at_rank (map marks_shape parts) n ++ t) (ranks_shaped parts ns)
-
-columns_shaped : (n : ℕ) (parts : List (List Laid))
-    → marks_shape (by_columns n parts) ≡ by_columns n (map marks_shape parts)
-columns_shaped n [] = ranks_shaped [] (range_with_len 0 n)
-columns_shaped n (part ∷ []) = refl
-columns_shaped n (part ∷ other ∷ parts) = ranks_shaped (part ∷ other ∷ parts) (range_with_len 0 n)
-
-count_shaped : (test : Laid → Bool)
-    → ((x : Laid) → test (laid_shape x) ≡ test x) → (xs : List Laid) → count_by test (marks_shape xs) ≡ count_by test xs
-count_shaped test same [] = refl
-count_shaped test same (x ∷ xs) =
-    let one : Laid → ℕ = λ y. cond (test y) 1 0 in
-    sum_by-cons one (laid_shape x) (marks_shape xs)
-    ∙ ap (λ b. cond b 1 0 + count_by test (marks_shape xs)) (same x)
-    ∙ ap (λ k. cond (test x) 1 0 + k) (count_shaped test same xs)
-    ∙ sym (sum_by-cons one x xs)
-
-above_shaped : (r : ℕ) (x : Laid) → text_above r (laid_shape x) ≡ text_above r x
-above_shaped r x =
-    ap (λ b. b && is_words (mark_shape x.mark) && is_above x.lane) (stands_shaped r x)
-    ∙ ap (λ b. stands_at_rank r x && b && is_above x.lane) (words_shaped x.mark)
-
-below_shaped : (r : ℕ) (x : Laid) → text_below r (laid_shape x) ≡ text_below r x
-below_shaped r x =
-    ap (λ b. b && is_words (mark_shape x.mark) && is_below_staff x.lane) (stands_shaped r x)
-    ∙ ap (λ b. stands_at_rank r x && b && is_below_staff x.lane) (words_shaped x.mark)
-
-with_shaped : (t : TextCounts) (part : List Laid) (r : ℕ) → texts_with t (marks_shape part) r ≡ texts_with t part r
-with_shaped t part r =
-    ap (λ n. record { above = t.above + n; below = t.below + count_by (text_below r) (marks_shape part) })
-    (count_shaped (text_above r) (above_shaped r) part)
-    ∙ ap (λ n. record { above = t.above + count_by (text_above r) part; below = t.below + n })
-    (count_shaped (text_below r) (below_shaped r) part)
-
-texts_shaped : (before : List TextCounts) (part : List Laid) (ns : List ℕ)
-    → map (λ r. texts_with (slice_index_or before r no_texts) (marks_shape part) r) ns
-    ≡ map (λ r. texts_with (slice_index_or before r no_texts) part r) ns
-texts_shaped before part [] = refl
-texts_shaped before part (n ∷ ns) =
-    ap (λ t. t ∷ map (λ r. texts_with (slice_index_or before r no_texts) (marks_shape part) r) ns)
-    (with_shaped (slice_index_or before n no_texts) part n)
-    ∙ ap (λ t. texts_with (slice_index_or before n no_texts) part n ∷ t) (texts_shaped before part ns)
-
-same_texts : (n : ℕ) (before : List TextCounts) (part other : List Laid)
-    → marks_shape part ≡ marks_shape other → texts_after n before part ≡ texts_after n before other
-same_texts n before part other e =
-    sym (texts_shaped before part (range_with_len 0 n))
-    ∙ ap (texts_after n before) e
-    ∙ texts_shaped before other (range_with_len 0 n)
+at_alike k [] (u ∷ us) h = absurd h
+at_alike k (s ∷ ss) [] h = absurd h
 
 -- ---- beams and arcs
 abbrev flat : BeamStem → BeamStem
@@ -509,61 +446,65 @@ module _ (keys : List ColumnKey) (lengths : List ℕ) (a b : ℕ) where
       (ap (map (span keys)) (grace_beams keys a ds ∙ ap (grace_beams_between a) (slice_flat a b v.measures))))
       (arcs keys lengths a b v.measures v.arcs)
 
-  own : (place : WordRoom) (v : DrawnVoice)
-      → marks_shape (own_part keys lengths (Some place) a b v)
-      ≡ marks_shape (own_part keys lengths (Some (unplaced place)) a b (flat_all v))
-  own place v =
-      columns keys place lengths a v.seat v.first (slice_range v.measures a b)
-      ∙ ap (λ t. marks_shape (columns_part keys lengths (Some (unplaced place)) a v.seat v.first t))
+  own : (first : ℕ) (v : DrawnVoice)
+      → AreAlike (voice_slots first lengths a b v) (voice_slots first lengths a b (flat_all v))
+  own first v =
+      subst (λ ds. AreAlike (voice_slots first lengths a b v) (columns_slots first lengths a v.seat v.first ds))
       (slice_flat a b v.measures)
+      (columns first lengths a v.seat v.first (slice_range v.measures a b))
 
-  written : (room : StaffRoom) (first : ℕ) (before : List TextCounts) (vs : List DrawnVoice)
-      → map marks_shape (written_parts keys lengths room a b first before vs)
-      ≡ map marks_shape (written_parts keys lengths (no_room room.verses) a b first before (map flat_all vs))
-  written room first before [] = refl
-  written room first before (v ∷ vs) =
-      let place : WordRoom = record { room = room; first = first; before = before } in
-      let part = own_part keys lengths (Some place) a b v in
-      let other = own_part keys lengths (Some (unplaced place)) a b (flat_all v) in
-      ap (λ t.
-      t
-      ∷ map marks_shape
-      (written_parts keys lengths room a b (first + v.verses) (texts_after (length keys) before part) vs))
-      (own place v)
-      ∙ ap (λ t. marks_shape other ∷ t) (written room (first + v.verses) (texts_after (length keys) before part) vs
-      ∙ ap (λ t.
-      map marks_shape (written_parts keys lengths (no_room room.verses) a b (first + v.verses) t (map flat_all vs)))
-      (same_texts (length keys) before part other (own place v)))
+  abbrev slots_of : ℕ → List DrawnVoice → List VoiceSlots
+  slots_of first vs = slots_of_voices first lengths a b vs
 
-  all_bridges : (vs : List DrawnVoice)
-      → map (span keys) (flat_map (bridges_of lengths a b) vs)
-      ≡ map (span keys) (flat_map (bridges_of lengths a b) (map flat_all vs))
-  all_bridges [] = refl
-  all_bridges (v ∷ vs) =
-      joined (span keys) (bridges_of lengths a b v) (flat_map (bridges_of lengths a b) vs)
-      (bridges_of lengths a b (flat_all v)) _ (bridges v) (all_bridges vs)
+  all_alike : (k : ColumnKey) (first : ℕ) (vs : List DrawnVoice)
+      → AreAlike (column_slots k (all_slots (slots_of first vs)))
+      (column_slots k (all_slots (slots_of first (map flat_all vs))))
+  all_alike k first [] = tt
+  all_alike k first (v ∷ vs) =
+      alike_join (slots_at k (voice_slots first lengths a b v))
+      (slots_at k (voice_slots first lengths a b (flat_all v)))
+      (column_slots k (all_slots (slots_of (first + v.verses) vs)))
+      (column_slots k (all_slots (slots_of (first + v.verses) (map flat_all vs))))
+      (at_alike k (voice_slots first lengths a b v) (voice_slots first lengths a b (flat_all v)) (own first v))
+      (all_alike k (first + v.verses) vs)
 
-  -- a staff of voices with all ends at 0
-  abbrev flat_staff : ℕ → List DrawnVoice → List Laid
-  flat_staff verses vs =
-      by_columns (length keys) (map marks_shape (written_parts keys lengths (no_room verses) a b 0 [] vs))
-      ++ map (span keys) (flat_map (bridges_of lengths a b) vs)
+  all_columns : (p q : TextPlace) (vs : List DrawnVoice) (ks : List ColumnKey)
+      → marks_shape (flat_map (column_at keys p (all_slots (slots_of 0 vs))) ks)
+      ≡ marks_shape (flat_map (column_at keys q (all_slots (slots_of 0 (map flat_all vs)))) ks)
+  all_columns p q vs [] = refl
+  all_columns p q vs (k ∷ ks) =
+      let some = column_slots k (all_slots (slots_of 0 vs)) in
+      let others = column_slots k (all_slots (slots_of 0 (map flat_all vs))) in
+      joined laid_shape (column_at keys p (all_slots (slots_of 0 vs)) k)
+      (flat_map (column_at keys p (all_slots (slots_of 0 vs))) ks)
+      (column_at keys q (all_slots (slots_of 0 (map flat_all vs))) k) _
+      (ranked (key_rank keys k) (column_marks p some) (column_marks q others)
+      (column_alike (key_rank keys k) p q some others (all_alike k 0 vs)))
+      (all_columns p q vs ks)
 
+  all_bridges : (first : ℕ) (vs : List DrawnVoice)
+      → map (span keys) (flat_map (λ v. v.bridges) (slots_of first vs))
+      ≡ map (span keys) (flat_map (λ v. v.bridges) (slots_of first (map flat_all vs)))
+  all_bridges first [] = refl
+  all_bridges first (v ∷ vs) =
+      joined (span keys) (bridges_of lengths a b v) (flat_map (λ w. w.bridges) (slots_of (first + v.verses) vs))
+      (bridges_of lengths a b (flat_all v)) _ (bridges v) (all_bridges (first + v.verses) vs)
+
+  -- a staff, and that of its voices with all ends at 0
   staff : (vs : List DrawnVoice)
-      → staff_shape (staff_marks keys lengths a b vs) ≡ flat_staff (verses_on vs) (map flat_all vs)
-  unfolding staff_marks staff_over room_over
+      → staff_shape (staff_marks keys lengths a b vs) ≡ staff_shape (staff_marks keys lengths a b (map flat_all vs))
+  unfolding staff_marks staff_over staff_laid
   staff vs =
-      let room = room_over (verses_on vs) (bare_marks keys lengths a b vs) in
-      let parts = written_parts keys lengths room a b 0 [] vs in
-      let bridges = flat_map (bridges_of lengths a b) vs in
-      map-append laid_shape (by_columns (length keys) parts) (map (bridge_at keys) bridges)
-      ∙ ap (λ t. t ++ marks_shape (map (bridge_at keys) bridges))
-      (columns_shaped (length keys) parts ∙ ap (by_columns (length keys)) (written room 0 [] vs))
-      ∙ ap (λ t.
-      by_columns (length keys)
-      (map marks_shape (written_parts keys lengths (no_room (verses_on vs)) a b 0 [] (map flat_all vs)))
-      ++ t)
-      (map-map laid_shape (bridge_at keys) bridges ∙ all_bridges vs)
+      let place = λ (ws : List DrawnVoice). place_outside (verses_on ws) (bare_laid keys (slots_of 0 ws)) in
+      let columns_on =
+      λ (ws : List DrawnVoice). flat_map (column_at keys (place ws) (all_slots (slots_of 0 ws))) keys in
+      let between = λ (ws : List DrawnVoice). flat_map (λ v. v.bridges) (slots_of 0 ws) in
+      let flat_ones = map flat_all vs in
+      joined laid_shape (columns_on vs) (map (bridge_at keys) (between vs)) (columns_on flat_ones)
+      (map (bridge_at keys) (between flat_ones)) (all_columns (place vs) (place flat_ones) vs keys)
+      (map-map laid_shape (bridge_at keys) (between vs)
+      ∙ all_bridges 0 vs
+      ∙ sym (map-map laid_shape (bridge_at keys) (between flat_ones)))
 
   tilted_flat : (at : List ℤ) (vs : List DrawnVoice)
       → map flat_all (map (voice_tilted keys at a b) vs) ≡ map flat_all vs
@@ -580,8 +521,7 @@ module _ (keys : List ColumnKey) (lengths : List ℕ) (a b : ℕ) where
       let tilted = map (voice_tilted keys at a b) vs in
       ap (λ x. x ∷ map staff_shape (map (staff_marks keys lengths a b) staves))
       (staff vs
-      ∙ ap (λ n. flat_staff n (map flat_all vs)) (ap sum (sym (map-map (λ v. v.verses) (voice_tilted keys at a b) vs)))
-      ∙ ap (flat_staff (verses_on tilted)) (sym (tilted_flat at vs))
+      ∙ ap (λ ws. staff_shape (staff_marks keys lengths a b ws)) (sym (tilted_flat at vs))
       ∙ sym (staff tilted))
       ∙ ap (λ xs. staff_shape (tilted_staff keys lengths at a b vs) ∷ xs) (each_alike at staves)
 

@@ -7,9 +7,9 @@ use Rattle.mus_score.specs.Seats.{grouped}
 use Rattle.mus_onsets.specs.declared.keys.ColumnKey.{ColumnKey}
 use Rattle.mus_drawn.specs.declared.drawn.DrawnVoice.{DrawnVoice}
 use Rattle.mus_drawn.specs.Good.{AreGoodMeasures}
-use Rattle.mus_marks.specs.Staff.{slotted_staff, verses_on}
+use Rattle.mus_marks.specs.Staff.{staff_marks, verses_on}
 use Rattle.mus_marks.specs.System.{is_drawn_lower}
-use Rattle.mus_marks.specs.Tilt.{over, sloped_over, tilted_slots, voice_ended, voice_tilted}
+use Rattle.mus_marks.specs.Tilt.{over, sloped_over, tilted_staff, voice_ended, voice_tilted}
 use Rattle.mus_marks.proofs.Ending.{ended_good, ended_length}
 use Rattle.mus_marks.proofs.Groups.{grouped_map}
 
@@ -56,9 +56,9 @@ module _ (keys : List ColumnKey) (at : List ℤ) (a b : ℕ) where
 
   -- the staves of tilted voices are the tilted staves
   pub staves_tilted : (lengths : List ℕ) (vs : List DrawnVoice)
-      → map (slotted_staff keys lengths a b) (grouped is_drawn_lower (map (voice_tilted keys at a b) vs))
-      ≡ map (tilted_slots keys lengths at a b) (grouped is_drawn_lower vs)
+      → map (staff_marks keys lengths a b) (grouped is_drawn_lower (map (voice_tilted keys at a b) vs))
+      ≡ map (tilted_staff keys lengths at a b) (grouped is_drawn_lower vs)
   staves_tilted lengths vs =
-      ap (map (slotted_staff keys lengths a b))
+      ap (map (staff_marks keys lengths a b))
       (grouped_map (voice_tilted keys at a b) is_drawn_lower is_drawn_lower (λ v. refl) vs)
-      ∙ map-map (slotted_staff keys lengths a b) (map (voice_tilted keys at a b)) (grouped is_drawn_lower vs)
+      ∙ map-map (staff_marks keys lengths a b) (map (voice_tilted keys at a b)) (grouped is_drawn_lower vs)

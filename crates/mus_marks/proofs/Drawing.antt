@@ -25,7 +25,7 @@ use Rattle.mus_slots.specs.Words.{IsInOrder, IsOrdered, all_passed, with_words, 
 use Rattle.mus_slots.proofs.InColumns.{columns_same, silent_same}
 use Rattle.mus_slots.proofs.Words.{SameWords, blank_same, passed_join, words_join}
 use Rattle.mus_marks.specs.Silent.{is_silent, is_silent_staff}
-use Rattle.mus_marks.specs.Staff.{own_part, slotted_staff, staff_over, verses_on}
+use Rattle.mus_marks.specs.Staff.{own_part, staff_marks, staff_over, verses_on}
 use Rattle.mus_marks.proofs.VoiceSlots.{voice_laid}
 use Rattle.mus_marks.proofs.Silent.{staff_blank, written_blank}
 use Rattle.mus_marks.proofs.StaffSlots.{all_bare, bare_same, between_same}
@@ -189,8 +189,8 @@ module _ (keys : List ColumnKey) (lengths : List ℕ) (a b : ℕ) where
   pub staff_there : (vs : List DrawnVoice) (columns all : List Laid) (bridges : List Bridge) (staff : StaffMarks)
       → columns ≡ staff_columns keys (verses_on vs) (slots_of_voices 0 lengths a b vs)
       → bridges ≡ flat_map (bridges_of lengths a b) vs → all ≡ columns ++ map (bridge_at keys) bridges
-      → staff ≡ staff_over all → staff ≡ slotted_staff keys lengths a b vs
-  unfolding staff_laid
+      → staff ≡ staff_over all → staff ≡ staff_marks keys lengths a b vs
+  unfolding staff_marks staff_laid
   staff_there vs columns all bridges staff is are put over =
       let voices = slots_of_voices 0 lengths a b vs in
       over

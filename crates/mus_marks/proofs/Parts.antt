@@ -1,9 +1,11 @@
 -- One walk over the marks of voices: what holds of all marks in a column, whatever its rank, and of beams and arcs,
 -- holds of all marks of a measure, of the columns of a system, and of a staff.
-use Rattle.std.proofs.Common.{◌≡◌, ℕ, zero, suc, ◌+◌, ◌-◌, ◌≤◌, ◌<◌, ◌==◌, ◌&&◌, ◌||◌, not, Bool, true, false}
-use Rattle.std.proofs.Common.{if◌then◌else◌, List, [], ◌∷◌, ◌++◌, take, length, map, drop, Option, Some, None, arith}
+use Rattle.std.proofs.Common.{◌≡◌, ℕ, zero, suc, ◌+◌, ◌≤◌, ◌<◌, ◌==◌, ◌&&◌, ◌||◌, not, Bool, true, false}
+use Rattle.std.proofs.Common.{if◌then◌else◌, cond, sym, subst, List, [], ◌∷◌, ◌++◌, take, length, map, drop, Option}
+use Rattle.std.proofs.Common.{Some, None, arith}
+use Rattle.std.proofs.lemmas.List.{append-nil, map-append}
 use Rattle.std.proofs.lemmas.List.Sums.{sum_by-cons}
-use Rattle.std.specs.List.{AllByRecursion, flat_map, slice_index_or, slice_range}
+use Rattle.std.specs.List.{AllByRecursion, flat_map, slice_index_or}
 use Rattle.std.specs.Prelude.{IfSome}
 use Rattle.mus_units.specs.declared.key.Meter.{Meter}
 use Rattle.mus_units.specs.declared.key.Sign.{Sign}
@@ -16,17 +18,19 @@ use Rattle.mus_score.specs.declared.score.Seat.{Seat}
 use Rattle.mus_score.specs.Seats.{is_lower}
 use Rattle.mus_onsets.specs.declared.keys.ColumnKey.{ColumnKey}
 use Rattle.mus_onsets.specs.Keys.{has_features}
-use Rattle.mus_stems.proofs.RunLaws.{all_append, all_drop, all_take}
+use Rattle.mus_onsets.specs.Order.{key_rank, same_key}
+use Rattle.mus_stems.proofs.RunLaws.{all_append}
 use Rattle.mus_laid.specs.declared.drawn.Bridge.{Bridge}
 use Rattle.mus_laid.specs.declared.drawn.LaneInk.{LaneInk}
 use Rattle.mus_laid.specs.declared.laid.Laid.{Laid}
-use Rattle.mus_laid.specs.Ranked.{bridge_at, by_columns, drawn_at}
+use Rattle.mus_laid.specs.Ranked.{bridge_at, drawn_at}
 use Rattle.mus_ink.specs.declared.graces.Group.{Group}
 use Rattle.mus_ink.specs.Bars.{bar_marks}
 use Rattle.mus_ink.specs.Changes.{change_marks, head_marks}
 use Rattle.mus_ink.specs.Decos.{note_marks}
 use Rattle.mus_ink.specs.Graces.{grace_marks}
 use Rattle.mus_ink.proofs.EachMark.{OfMarks, bar, change, grace, head, note}
+use Rattle.mus_words.specs.declared.texts.TextPlace.{TextPlace}
 use Rattle.mus_words.specs.Syllables.{syllables_from}
 use Rattle.mus_words.specs.Texts.{text_marks}
 use Rattle.mus_words.proofs.EachWord.{OfWords, syllables_all, texts_all}
@@ -34,15 +38,16 @@ use Rattle.mus_drawn.specs.declared.drawn.DrawnEvent.{DrawnEvent}
 use Rattle.mus_drawn.specs.declared.drawn.DrawnMeasure.{DrawnMeasure}
 use Rattle.mus_drawn.specs.declared.drawn.DrawnVoice.{DrawnVoice}
 use Rattle.mus_drawn.specs.Drawn.{raise_of}
-use Rattle.mus_bridges.specs.Bridges.{bridges_of}
 use Rattle.mus_marks.specs.declared.events.WordRoom.{WordRoom}
-use Rattle.mus_marks.specs.declared.events.StaffRoom.{StaffRoom}
-use Rattle.mus_marks.specs.declared.events.TextCounts.{TextCounts}
+use Rattle.mus_slots.specs.declared.slots.Slot.{Slot}
+use Rattle.mus_slots.specs.declared.slots.VoiceSlots.{VoiceSlots}
+use Rattle.mus_slots.specs.Staff.{all_slots, bare_laid, column_at, column_marks, column_slots, place_after}
+use Rattle.mus_slots.specs.Staff.{place_outside, slots_at, staff_laid, written_marks}
+use Rattle.mus_slots.specs.Voice.{slots_of_voices, written_of}
+use Rattle.mus_slots.proofs.Parts.{OfSlots, voice_all}
 use Rattle.mus_marks.specs.Events.{change_part, event_marks, events_marks, graces_from, graces_part, measures_marks}
 use Rattle.mus_marks.specs.Events.{no_texts, note_part, text_place, words_marks, words_part}
-use Rattle.mus_marks.specs.Staff.{bare_marks, columns_part, first_bar_part, head_part, own_part, room_over, staff_marks}
-use Rattle.mus_marks.specs.Staff.{staff_over, verses_on, written_parts}
-use Rattle.mus_marks.proofs.Columned.{columned_all}
+use Rattle.mus_marks.specs.Staff.{columns_part, first_bar_part, head_part, staff_marks, staff_over, verses_on}
 
 -- measures with good meters, whose events have a place for each of some verses
 abbrev pub FitsEvent : ℕ → DrawnEvent → Type 0
@@ -208,33 +213,97 @@ module _ (verses : ℕ) (keys : List ColumnKey) (P : Laid → Type 0) (w : OfLai
       (any (not (is_lower seat) && (a == 0) && has_features first) _ (bar_at _ first)))
       (measures_all own lengths place a true ds numbered fits)
 
-  -- a voice, and a staff
-  some_fit : (own a b : ℕ) (ds : List DrawnMeasure) → Fits own ds → Fits own (slice_range ds a b)
-  some_fit own a b ds fits = all_take (FitsMeasure own) (b - a) (drop a ds) (all_drop (FitsMeasure own) a ds fits)
+  -- all marks of a slot, in a column of any rank and with its words at any place
+  abbrev HasAll : Slot → Type 0
+  HasAll s = (r : ℕ) (place : TextPlace)
+      → AllByRecursion P (map (drawn_at r) (s.drawn ++ written_marks place s.written))
 
-  pub voice_all : (lengths : List ℕ) (place : Option WordRoom) (a b : ℕ) (v : DrawnVoice)
-      → InPlace verses v.verses place → FitsVoice v → AllByRecursion P (own_part keys lengths place a b v)
-  voice_all lengths place a b v numbered fits =
-      columns_all v.verses lengths place a v.seat v.first (slice_range v.measures a b) numbered
-      (some_fit v.verses a b v.measures fits)
+  plain : (ds : List LaneInk) (r : ℕ)
+      → AllByRecursion (λ d. P (drawn_at r d)) ds → AllByRecursion P (map (drawn_at r) (ds ++ []))
+  plain ds r all = subst (λ t. AllByRecursion P (map (drawn_at r) t)) (sym (append-nil ds)) (placed r ds all)
 
-  written_all : (lengths : List ℕ) (room : StaffRoom) (a b first : ℕ) (before : List TextCounts) (vs : List DrawnVoice)
+  slots_have : (first own : ℕ) (lengths : List ℕ) → first + own ≤ verses
+      → OfSlots first lengths HasAll (FitsEvent own) (λ d. IsGoodMeter d.opening.meter)
+  unfolding text_marks
+  slots_have first own lengths last = record {
+    of_head = λ a d good r place.
+        plain _ r
+        (head (λ x. P (drawn_at r x)) (w.of_marks r) d.opening.clef d.opening.key.signs _
+        (if_meter ((a == 0) || d.opening.anew) d.opening.meter good));
+    of_first = λ b r place. plain _ r (bar (λ x. P (drawn_at r x)) (w.of_marks r) b);
+    of_change = λ m e fits marked r place.
+        plain _ r (change (λ x. P (drawn_at r x)) (w.of_marks r) e.clef e.old e.flat.event.changes fits.0);
+    of_grace = λ m tick clef group i g r place.
+        plain _ r (grace (λ x. P (drawn_at r x)) (w.of_marks r) clef group (i == 0) g);
+    of_note = λ m before after e fits r place.
+        let Q : LaneInk → Type 0 = λ x. P (drawn_at r x) in
+        let count = fits.1 in
+        let words = e.flat.event.words in
+        placed r _
+        (all_append Q (note_marks e.clef (raise_of e.seat) e.flat.event e.plan before after)
+        (written_marks place (written_of first e.flat))
+        (note Q (w.of_marks r) e.clef (raise_of e.seat) e.flat.event e.plan before after)
+        (all_append Q (syllables_from place.low first words) (text_marks place e.flat)
+        (syllables_all (IsVerse verses) Q (w.of_words r) place.low first words
+        (λ i inside. let here : first + i < verses = omega (arith, last, inside, count) in here))
+        (texts_all (IsVerse verses) Q (w.of_words r) place e.flat)));
+    of_bar = λ m d good r place. plain _ r (bar (λ x. P (drawn_at r x)) (w.of_marks r) d.bar);
+  }
+
+  -- ---- a column, and all columns
+  at_key : (k : ColumnKey) (ss : List Slot) → AllByRecursion HasAll ss → AllByRecursion HasAll (slots_at k ss)
+  at_key k [] all = tt
+  at_key k (s ∷ ss) all = by (same_key s.key k) (at_key k ss all.1)
+    where
+      by : (b : Bool) → AllByRecursion HasAll (slots_at k ss)
+          → AllByRecursion HasAll (cond b (s ∷ slots_at k ss) (slots_at k ss))
+      by true more = (all.0, more)
+      by false more = more
+
+  at_keys : (k : ColumnKey) (vs : List VoiceSlots)
+      → AllByRecursion (λ v. AllByRecursion HasAll v.slots) vs → AllByRecursion HasAll (column_slots k (all_slots vs))
+  at_keys k [] all = tt
+  at_keys k (v ∷ vs) all =
+      all_append HasAll (slots_at k v.slots) (column_slots k (all_slots vs)) (at_key k v.slots all.0)
+      (at_keys k vs all.1)
+
+  column_all : (r : ℕ) (p : TextPlace) (ss : List Slot)
+      → AllByRecursion HasAll ss → AllByRecursion P (map (drawn_at r) (column_marks p ss))
+  column_all r p [] all = tt
+  column_all r p (s ∷ ss) all =
+      let own = s.drawn ++ written_marks p s.written in
+      let more = column_marks (place_after p s.written) ss in
+      subst (AllByRecursion P) (sym (map-append (drawn_at r) own more))
+      (all_append P (map (drawn_at r) own) (map (drawn_at r) more) (all.0 r p)
+      (column_all r (place_after p s.written) ss all.1))
+
+  columns_have : (p : TextPlace) (vs : List VoiceSlots) (ks : List ColumnKey)
+      → AllByRecursion (λ v. AllByRecursion HasAll v.slots) vs
+      → AllByRecursion P (flat_map (column_at keys p (all_slots vs)) ks)
+  columns_have p vs [] all = tt
+  columns_have p vs (k ∷ ks) all =
+      all_append P (column_at keys p (all_slots vs) k) (flat_map (column_at keys p (all_slots vs)) ks)
+      (column_all (key_rank keys k) p (column_slots k (all_slots vs)) (at_keys k vs all)) (columns_have p vs ks all)
+
+  voices_have : (lengths : List ℕ) (a b first : ℕ) (vs : List DrawnVoice)
       → first + verses_on vs ≤ verses → AllByRecursion FitsVoice vs
-      → AllByRecursion (AllByRecursion P) (written_parts keys lengths room a b first before vs)
-  written_all lengths room a b first before [] few fits = tt
-  written_all lengths room a b first before (v ∷ vs) few fits =
-      let count = verses_cons v vs in
-      let here : first + v.verses ≤ verses = omega (arith, few, count) in (
-        voice_all lengths (Some (record { room = room; first = first; before = before })) a b v here fits.0,
-        written_all lengths room a b (first + v.verses) _ vs (omega (arith, few, count)) fits.1,
+      → AllByRecursion (λ v. AllByRecursion HasAll v.slots) (slots_of_voices first lengths a b vs)
+  voices_have lengths a b first [] few fits = tt
+  voices_have lengths a b first (v ∷ vs) few fits =
+      let count = verses_cons v vs in (
+        voice_all first lengths HasAll (FitsEvent v.verses) (λ d. IsGoodMeter d.opening.meter)
+            (slots_have first v.verses lengths (omega (arith, few, count))) a b v fits.0,
+        voices_have lengths a b (first + v.verses) vs (omega (arith, few, count)) fits.1,
       )
 
   pub staff_all : (lengths : List ℕ) (a b : ℕ) (vs : List DrawnVoice)
-      → verses_on vs ≤ verses → AllByRecursion FitsVoice vs → AllByRecursion P (staff_marks keys lengths a b vs).marks
-  unfolding staff_marks staff_over
+      → verses_on vs ≤ verses → AllByRecursion FitsVoice vs
+      → AllByRecursion P (staff_marks keys lengths a b vs).marks
+  unfolding staff_marks staff_over staff_laid
   staff_all lengths a b vs few fits =
-      two (by_columns (length keys)
-      (written_parts keys lengths (room_over (verses_on vs) (bare_marks keys lengths a b vs)) a b 0 [] vs))
-      _
-      (columned_all P (length keys) _ (written_all lengths _ a b 0 [] vs (omega (arith, few)) fits))
-      (between (flat_map (bridges_of lengths a b) vs))
+      let voices = slots_of_voices 0 lengths a b vs in
+      let place = place_outside (verses_on vs) (bare_laid keys voices) in
+      all_append P (flat_map (column_at keys place (all_slots voices)) keys)
+      (map (bridge_at keys) (flat_map (λ v. v.bridges) voices))
+      (columns_have place voices keys (voices_have lengths a b 0 vs (omega (arith, few)) fits))
+      (between (flat_map (λ v. v.bridges) voices))

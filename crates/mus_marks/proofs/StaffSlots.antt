@@ -18,7 +18,7 @@ use Rattle.mus_slots.proofs.ByKey.{along, in_order}
 use Rattle.mus_marks.specs.declared.events.StaffRoom.{StaffRoom}
 use Rattle.mus_marks.specs.declared.events.WordRoom.{WordRoom}
 use Rattle.mus_marks.specs.Events.{no_texts, text_place}
-use Rattle.mus_marks.specs.Staff.{bare_marks, own_part, room_over, staff_bridges, staff_marks, staff_over, verses_on}
+use Rattle.mus_marks.specs.Staff.{bare_marks, own_part, room_over, staff_bridges, ranked_staff, staff_over, verses_on}
 use Rattle.mus_marks.specs.Staff.{written_parts}
 use Rattle.mus_slots.proofs.InColumns.{key_of}
 use Rattle.mus_marks.proofs.Columns.{IsSlotted, one_column, one_slot, slots_inside, slots_rise, voices_column}
@@ -112,8 +112,8 @@ module _ (keys : List ColumnKey) (rise : Rises keys) (lengths : List ℕ) (room 
 
 pub staff_same : (keys : List ColumnKey) (lengths : List ℕ) (a b : ℕ) (vs : List DrawnVoice)
     → Rises keys → AllByRecursion (IsSlotted keys lengths a b) vs
-    → (staff_marks keys lengths a b vs).marks ≡ staff_laid keys (verses_on vs) (slots_of_voices 0 lengths a b vs)
-unfolding staff_marks staff_over staff_laid
+    → (ranked_staff keys lengths a b vs).marks ≡ staff_laid keys (verses_on vs) (slots_of_voices 0 lengths a b vs)
+unfolding ranked_staff staff_over staff_laid
 staff_same keys lengths a b vs rise all =
     let voices = slots_of_voices 0 lengths a b vs in
     let others = bare_marks keys lengths a b vs in

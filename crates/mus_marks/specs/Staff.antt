@@ -119,20 +119,20 @@ written_parts keys lengths room a b first before (v ∷ vs) =
 unfoldable pub staff_over : List Laid → StaffMarks
 staff_over all = record { marks = all; low = cut_dy (staff_heights all).low; high = cut_dy (staff_heights all).high }
 
--- The marks of a staff in measures a to b - 1: column by column, in each what the voices have there one after
--- another; then what goes between columns, voice by voice. The head, the bar before the first measure, changes and
--- bars are the first voice's.
+-- The marks of a staff in measures a to b - 1: column by column, in each what the slots of its voices have there one
+-- after another; then what goes between columns, voice by voice. The head, the bar before the first measure, changes
+-- and bars are the first voice's.
 unfoldable pub staff_marks : List ColumnKey → List ℕ → ℕ → ℕ → List DrawnVoice → StaffMarks
 staff_marks keys lengths a b voices =
+    staff_over (staff_laid keys (verses_on voices) (slots_of_voices 0 lengths a b voices))
+
+-- the same by the ranks of columns, voice by voice
+unfoldable pub ranked_staff : List ColumnKey → List ℕ → ℕ → ℕ → List DrawnVoice → StaffMarks
+ranked_staff keys lengths a b voices =
     let room = room_over (verses_on voices) (bare_marks keys lengths a b voices) in
     staff_over
     (by_columns (length keys) (written_parts keys lengths room a b 0 [] voices)
     ++ staff_bridges keys lengths a b voices)
-
--- the same from the slots of the voices
-abbrev pub slotted_staff : List ColumnKey → List ℕ → ℕ → ℕ → List DrawnVoice → StaffMarks
-slotted_staff keys lengths a b voices =
-    staff_over (staff_laid keys (verses_on voices) (slots_of_voices 0 lengths a b voices))
 
 -- a staff covers at least its lines
 abbrev pub CoversLines : StaffMarks → Type 0

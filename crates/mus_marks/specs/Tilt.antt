@@ -13,7 +13,7 @@ use Rattle.mus_laid.specs.declared.laid.SystemMarks.{SystemMarks}
 use Rattle.mus_drawn.specs.declared.drawn.DrawnEvent.{DrawnEvent}
 use Rattle.mus_drawn.specs.declared.drawn.DrawnMeasure.{DrawnMeasure}
 use Rattle.mus_drawn.specs.declared.drawn.DrawnVoice.{DrawnVoice}
-use Rattle.mus_marks.specs.{Events.note_rank, Staff.slotted_staff, Staff.staff_marks, System.drawn_staves}
+use Rattle.mus_marks.specs.{Events.note_rank, Staff.ranked_staff, Staff.staff_marks, System.drawn_staves}
 
 -- what the line of its beam needs of an event of measure m; the event's abscissa is that of its column
 abbrev pub anchor_at : List ColumnKey → List ℤ → ℕ → DrawnEvent → SlopeInput
@@ -73,9 +73,9 @@ voice_tilted keys at a b v = voice_ended a (sloped_over keys at a (slice_range v
 abbrev pub tilted_staff : List ColumnKey → List ℕ → List ℤ → ℕ → ℕ → List DrawnVoice → StaffMarks
 tilted_staff keys lengths at a b voices = staff_marks keys lengths a b (map (voice_tilted keys at a b) voices)
 
--- the same from the slots of the tilted voices
-abbrev pub tilted_slots : List ColumnKey → List ℕ → List ℤ → ℕ → ℕ → List DrawnVoice → StaffMarks
-tilted_slots keys lengths at a b voices = slotted_staff keys lengths a b (map (voice_tilted keys at a b) voices)
+-- the same by the ranks of columns
+abbrev pub ranked_tilt : List ColumnKey → List ℕ → List ℤ → ℕ → ℕ → List DrawnVoice → StaffMarks
+ranked_tilt keys lengths at a b voices = ranked_staff keys lengths a b (map (voice_tilted keys at a b) voices)
 
 -- What a score calls for in a system of measures a to b - 1 whose columns are at these abscissas.
 pub record IsTilted (s : Score) (t : Timeline) (a b : ℕ) (at : List ℤ) (m : SystemMarks) : Type 0 where

@@ -9,7 +9,7 @@ ghost use Rattle.mus_slots.specs.Voice.{slots_of_voices};
 ghost use Rattle.mus_slots.specs.Words.{IsOrdered, with_words};
 ghost use Rattle.mus_marks.specs.Places.{HasVerses};
 ghost use Rattle.mus_marks.specs.Silent.{is_silent_staff};
-ghost use Rattle.mus_marks.specs.Staff.{CoversLines, own_part, slotted_staff, staff_over, verses_on};
+ghost use Rattle.mus_marks.specs.Staff.{CoversLines, own_part, staff_marks, staff_over, verses_on};
 ghost use Rattle.mus_marks.specs.System.{is_drawn_lower};
 
 use crate::events::WordRoom;
@@ -257,7 +257,7 @@ fn staff_marks(
     requires verses { verses_on voices.now ≤ 128 }
     requires ordered { All (IsOrdered frame.now.keys.now frame.now.lengths.now frame.now.a frame.now.b) voices.now }
     ensures staff { IfOk result
-        (λ r. r ≡ slotted_staff frame.now.keys.now frame.now.lengths.now frame.now.a frame.now.b voices.now) }
+        (λ r. r ≡ staff_marks frame.now.keys.now frame.now.lengths.now frame.now.a frame.now.b voices.now) }
     ensures lines { IfOk result CoversLines }
 {
     let bridges = bridges_on(alloc, frame, voices)?;
@@ -294,7 +294,7 @@ pub(crate) fn staves(
     requires ordered { All (IsOrdered frame.now.keys.now frame.now.lengths.now frame.now.a frame.now.b) voices.now }
     ensures staves { IfOk result (λ r.
         r
-        ≡ map (slotted_staff frame.now.keys.now frame.now.lengths.now frame.now.a frame.now.b)
+        ≡ map (staff_marks frame.now.keys.now frame.now.lengths.now frame.now.a frame.now.b)
         (grouped is_drawn_lower voices.now)) }
     ensures lines { IfOk result (All CoversLines) }
 {

@@ -15,7 +15,7 @@ ghost use Rattle.mus_marks.specs.System.{IsCall, is_drawn_lower};
 ghost use Rattle.mus_marks.specs.Tilt.{CanTilt, AllCanTilt, ends_over, sloped_over, over, event_ended, end_left};
 ghost use Rattle.mus_marks.specs.Tilt.{measure_ended, measure_left, voice_ended, voice_left, voice_tilted};
 ghost use Rattle.mus_slots.specs.Words.{IsOrdered};
-ghost use Rattle.mus_marks.specs.Tilt.{AreAbscissas, IsTilted, tilted_slots};
+ghost use Rattle.mus_marks.specs.Tilt.{AreAbscissas, IsTilted, tilted_staff};
 
 use crate::staves::staves;
 use mus_drawn::{DrawnEvent, DrawnMeasure, DrawnVoice};
@@ -198,7 +198,7 @@ fn tilted_staves(
     ensures kept { voices.new ≡ voices.old }
     ensures staves { IfOk result (λ r.
         r
-        ≡ map (tilted_slots frame.now.keys.now frame.now.lengths.now at.now frame.now.a frame.now.b)
+        ≡ map (tilted_staff frame.now.keys.now frame.now.lengths.now at.now frame.now.a frame.now.b)
         (grouped is_drawn_lower voices.old)) }
     ensures lines { IfOk result (All CoversLines) }
 {

@@ -3,7 +3,7 @@ use Rattle.std.proofs.lemmas.List.Elements.{All-drop, All-push}
 use Rattle.std.specs.List.{All}
 use Rattle.mus_drawn.specs.Good.{AreGoodMeasures}
 use Rattle.mus_slots.specs.Words.{IsOrdered}
-use Rattle.mus_marks.specs.Staff.{CoversLines, slotted_staff, verses_on}
+use Rattle.mus_marks.specs.Staff.{CoversLines, staff_marks, verses_on}
 use Rattle.mus_marks.specs.System.{is_drawn_lower}
 use Rattle.mus_marks.proofs.Groups.{group_turn, rest_from}
 use Rattle.mus_marks.proofs.Parts.{verses_drop, verses_take}
@@ -40,7 +40,7 @@ loop-rest-preserved c =
           (n + 1) rest so_far.ordered);
       staves =
           group_turn is_drawn_lower
-          (slotted_staff c.args.frame.now.keys.now c.args.frame.now.lengths.now c.args.frame.now.a c.args.frame.now.b)
+          (staff_marks c.args.frame.now.keys.now c.args.frame.now.lengths.now c.args.frame.now.a c.args.frame.now.b)
           rest n c.loop-rest.staves c.push.new.self _ c.in-len1-up.len_at_least c.lower_count-count.ensures.value
           (c.in_ok-push.ensures.ok ∙ ap (λ t. c.loop-rest.staves ++ t ∷ []) c.in_ok-staff_marks.ensures.staff)
           so_far.staves;

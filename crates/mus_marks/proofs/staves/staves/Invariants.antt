@@ -2,7 +2,7 @@ use Rattle.std.{proofs.Common.{◌≡◌, ◌++◌, ◌≤◌, length, map}, spe
 use Rattle.mus_score.specs.Seats.{grouped}
 use Rattle.mus_drawn.specs.Good.{AreGoodMeasures}
 use Rattle.mus_slots.specs.Words.{IsOrdered}
-use Rattle.mus_marks.specs.Staff.{CoversLines, slotted_staff, verses_on}
+use Rattle.mus_marks.specs.Staff.{CoversLines, staff_marks, verses_on}
 use Rattle.mus_marks.specs.System.{is_drawn_lower}
 use Rattle.mus_marks.proofs.staves.staves.Given as goal
 
@@ -13,8 +13,8 @@ invariant-loop-rest l = record {
   verses : verses_on l.rest ≤ 128;
   ordered : All (IsOrdered l.frame.keys.now l.frame.lengths.now l.frame.a l.frame.b) l.rest;
   staves : l.staves
-      ++ map (slotted_staff l.frame.keys.now l.frame.lengths.now l.frame.a l.frame.b) (grouped is_drawn_lower l.rest)
-      ≡ map (slotted_staff l.frame.keys.now l.frame.lengths.now l.frame.a l.frame.b) (grouped is_drawn_lower l.voices);
+      ++ map (staff_marks l.frame.keys.now l.frame.lengths.now l.frame.a l.frame.b) (grouped is_drawn_lower l.rest)
+      ≡ map (staff_marks l.frame.keys.now l.frame.lengths.now l.frame.a l.frame.b) (grouped is_drawn_lower l.voices);
   lines : All CoversLines l.staves;
   shorter : length l.rest ≤ length l.voices;
 }

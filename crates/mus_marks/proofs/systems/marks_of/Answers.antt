@@ -4,11 +4,11 @@ use Rattle.mus_onsets.specs.Ranks.{AreRanked}
 use Rattle.mus_laid.specs.Boxes.{AreGoodMarks}
 use Rattle.mus_time.proofs.Counts.{lengths_count, voices_count}
 use Rattle.mus_slots.specs.Words.{IsOrdered}
-use Rattle.mus_marks.specs.Staff.{slotted_staff, verses_on}
+use Rattle.mus_marks.specs.Staff.{staff_marks, verses_on}
 use Rattle.mus_marks.specs.System.{drawn_staves, is_drawn_lower}
 use Rattle.mus_marks.proofs.Fitting.{few_verses, staves_fit}
 use Rattle.mus_marks.proofs.GoodMarks.{staves_good}
-use Rattle.mus_marks.proofs.SystemSlots.{marks_are_slots, voices_ordered}
+use Rattle.mus_marks.proofs.SystemSlots.{voices_ordered}
 use Rattle.mus_marks.proofs.systems.marks_of.Goals as goal
 
 pub invariant_of-frame : goal.invariant_of-frame
@@ -34,16 +34,13 @@ returns-clause-call c = record {
   staves =
       c.in_ok-staves.ensures.staves
       ∙ ap (λ ks.
-      map (slotted_staff ks c.as_slice-2.result.now c.args.a c.args.b) (grouped is_drawn_lower c.args.voices.now))
+      map (staff_marks ks c.as_slice-2.result.now c.args.a c.args.b) (grouped is_drawn_lower c.args.voices.now))
       c.as_slice.ensures
-      ∙ ap (λ ls. map (slotted_staff c.in_ok-keys.keys ls c.args.a c.args.b) (grouped is_drawn_lower c.args.voices.now))
+      ∙ ap (λ ls. map (staff_marks c.in_ok-keys.keys ls c.args.a c.args.b) (grouped is_drawn_lower c.args.voices.now))
       c.as_slice-2.ensures
       ∙ ap (λ vs.
-      map (slotted_staff c.in_ok-keys.keys c.args.t.now.lengths c.args.a c.args.b) (grouped is_drawn_lower vs))
-      c.requires.voices
-      ∙ sym
-      (marks_are_slots c.args.s.now c.args.t.now c.args.a c.args.b c.in_ok-keys.keys c.requires.times c.requires.good
-      c.requires.order c.requires.within c.in_ok-keys.ensures.keys);
+      map (staff_marks c.in_ok-keys.keys c.args.t.now.lengths c.args.a c.args.b) (grouped is_drawn_lower vs))
+      c.requires.voices;
 }
 
 pub returns-clause-good : goal.returns-clause-good

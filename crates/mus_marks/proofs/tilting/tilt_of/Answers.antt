@@ -8,11 +8,11 @@ use Rattle.mus_time.proofs.Few.{few_keys}
 use Rattle.mus_marks.specs.Staff.{verses_on}
 use Rattle.mus_marks.specs.System.{is_drawn_lower}
 use Rattle.mus_slots.specs.Words.{IsOrdered}
-use Rattle.mus_marks.specs.Tilt.{AllCanTilt, tilted_slots, voice_tilted}
+use Rattle.mus_marks.specs.Tilt.{AllCanTilt, tilted_staff, voice_tilted}
 use Rattle.mus_marks.proofs.Fitting.{few_verses}
 use Rattle.mus_marks.proofs.Sloping.{voices_can}
 use Rattle.mus_marks.proofs.Alike.{tilted_alike, tilted_good}
-use Rattle.mus_marks.proofs.SystemSlots.{tilted_marks_are_slots, tilted_ordered}
+use Rattle.mus_marks.proofs.SystemSlots.{tilted_ordered}
 use Rattle.mus_marks.proofs.tilting.tilt_of.Goals as goal
 
 pub invariant_of-frame : goal.invariant_of-frame
@@ -64,13 +64,10 @@ returns-clause-tilted c =
       keys = c.requires.keys;
       staves =
           c.in_ok-staves.ensures.staves
-          ∙ ap (λ ks. map (tilted_slots ks c.as_slice-2.result.now at a b) (grouped is_drawn_lower c.args.voices.now))
+          ∙ ap (λ ks. map (tilted_staff ks c.as_slice-2.result.now at a b) (grouped is_drawn_lower c.args.voices.now))
           c.as_slice.ensures
-          ∙ ap (λ ls. map (tilted_slots keys ls at a b) (grouped is_drawn_lower c.args.voices.now)) c.as_slice-2.ensures
-          ∙ ap (λ vs. map (tilted_slots keys lengths at a b) (grouped is_drawn_lower vs)) c.requires.voices
-          ∙ sym
-          (tilted_marks_are_slots c.args.s.now c.args.t.now a b keys c.requires.times c.requires.good c.requires.order
-          c.requires.within c.requires.keys at);
+          ∙ ap (λ ls. map (tilted_staff keys ls at a b) (grouped is_drawn_lower c.args.voices.now)) c.as_slice-2.ensures
+          ∙ ap (λ vs. map (tilted_staff keys lengths at a b) (grouped is_drawn_lower vs)) c.requires.voices;
     }
 
 pub returns-clause-alike : goal.returns-clause-alike

@@ -1,7 +1,7 @@
 use Rattle.std.{proofs.Common.{◌≡◌, ◌∙◌, map, ap, subst, arith, length}, specs.{Prelude.IfOk}}
 use Rattle.mus_score.specs.Seats.{grouped}
 use Rattle.mus_slots.specs.Words.{IsOrdered}
-use Rattle.mus_marks.specs.Staff.{slotted_staff}
+use Rattle.mus_marks.specs.Staff.{staff_marks}
 use Rattle.mus_marks.specs.System.{is_drawn_lower}
 use Rattle.mus_marks.specs.Tilt.{voice_left}
 use Rattle.mus_marks.proofs.AllTilted.{all_tilted, staves_tilted, tilted_all, tilted_count, tilted_goods, tilted_verses}
@@ -81,7 +81,7 @@ returns-clause-staves c =
     let b = c.args.frame.now.b in
     let vs = c.args.voices.now in
     subst (λ ss. IfOk c.staves-staves.result (λ r. r ≡ ss))
-    (ap (λ ws. map (slotted_staff keys lengths a b) (grouped is_drawn_lower ws))
+    (ap (λ ws. map (staff_marks keys lengths a b) (grouped is_drawn_lower ws))
     (all_tilted keys at a b vs c.exchange_voices.new.voices c.as_mut_slice.result.now c.exchange_voices.ensures.voices
     (c.as_mut_slice.ensures.value ∙ c.ends.view_is ∙ c.in_ok-ends.ensures))
     ∙ staves_tilted keys at a b lengths vs)
