@@ -6,6 +6,9 @@ use crate::laid::{Laid, Mark};
 use mus_units::{Memory, Row};
 use std::alloc::Global;
 
+/// The number of marks that is enough for most columns; room for it is reserved at once.
+const MARKS_OF_COLUMN: usize = 8;
+
 /// Returns the rank of the column of a glyph, words or a stem. `None` for beams and arcs, which go between columns.
 pub fn anchor_rank(mark: &Mark) -> Option<u32>
     ensures { result ≡ anchor_rank mark.now }
@@ -56,9 +59,9 @@ fn put_parts(columns: &mut Row<Row<Laid>>, parts: Row<Row<Laid>>) -> Result<(), 
 fn empty_columns(alloc: Global, count: usize) -> Result<Row<Row<Laid>>, Memory>
     ensures { IfOk result (λ r. r ≡ map (at_rank []) (range_with_len 0 count)) }
 {
-    let mut columns = Row::new(alloc);
+    let mut columns = Row::with_room(alloc, count)?;
     for i in 0..count {
-        columns.push(Row::new(alloc))?;
+        columns.push(Row::with_room(alloc, MARKS_OF_COLUMN)?)?;
     }
     Ok(columns)
 }
@@ -72,14 +75,24 @@ fn put_column(out: &mut Row<Laid>, column: Row<Laid>) -> Result<(), Memory>
     Ok(())
 }
 
-fn joined(alloc: Global, columns: Row<Row<Laid>>) -> Result<Row<Laid>, Memory>
+/// Returns the marks of columns, from left to right; room for `count` of them is reserved at once.
+fn joined(alloc: Global, columns: Row<Row<Laid>>, count: usize) -> Result<Row<Laid>, Memory>
     ensures { IfOk result (λ r. r ≡ flat_map (λ column. column) columns) }
 {
-    let mut out = Row::new(alloc);
+    let mut out = Row::with_room(alloc, count)?;
     for column in columns.items {
         put_column(&mut out, column)?;
     }
     Ok(out)
+}
+
+/// Returns how many marks there are in all.
+fn count_in(parts: &[Row<Laid>]) -> usize {
+    let mut count: usize = 0;
+    for part in parts {
+        count = count.saturating_add(part.len());
+    }
+    count
 }
 
 /// Returns lists of marks merged by column: in each column first the marks of the first list, then those of the
@@ -95,7 +108,8 @@ pub fn by_columns(alloc: Global, columns: usize, parts: Row<Row<Laid>>) -> Resul
             return Ok(part);
         }
     }
+    let count = count_in(parts.as_slice());
     let mut placed = empty_columns(alloc, columns)?;
     put_parts(&mut placed, parts)?;
-    joined(alloc, placed)
+    joined(alloc, placed, count)
 }
