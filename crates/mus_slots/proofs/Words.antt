@@ -1,4 +1,4 @@
--- The words of slots one after another; slots without words are passed over, so the words of a voice are those of its
+-- The words of slots one after another; slots without words are skipped, so the words of a voice are those of its
 -- events.
 use Rattle.std.proofs.Common.{◌≡◌, ◌∙◌, ℕ, ◌+◌, Bool, true, false, not, ◌||◌, List, [], ◌∷◌, ◌++◌, length}
 use Rattle.std.proofs.Common.{map, set, Option, Some, None, append_assoc, refl, sym, ap, subst, arith}

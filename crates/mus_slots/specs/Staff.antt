@@ -57,7 +57,8 @@ bridges_at keys voices = map (bridge_at keys) (flat_map (λ v. v.bridges) voices
 abbrev pub bare_laid : List ColumnKey → List VoiceSlots → List Laid
 bare_laid keys voices = flat_map (bare_slots keys) voices ++ bridges_at keys voices
 
--- the first words of a column are outside of the heights of all other marks of their staff, which has so many verses
+-- the first words of a column are outside of the heights of all other marks of their staff, whose verses have this
+-- number
 abbrev pub place_over : ℕ → HeightRange → TextPlace
 place_over verses heights =
     record { low = cut_dy heights.low; high = cut_dy heights.high; verses = verses; above = 0; below = 0 }

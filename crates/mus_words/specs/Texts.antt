@@ -64,6 +64,6 @@ unfoldable pub text_marks : TextPlace → Flat → List LaneInk
 text_marks place f =
     above_from place.high place.above (texts_above f) ++ below_from place.low place.verses place.below (texts_below f)
 
--- the place of further texts in a column, after so many above and below
+-- the place of further texts in a column, after the texts that it has above and below
 abbrev pub place_past : TextPlace → ℕ → ℕ → TextPlace
 place_past place above below = record place { above = place.above + above; below = place.below + below }

@@ -223,7 +223,7 @@ fn put_below(
     Ok(())
 }
 
-/// Returns the place of further texts in a column, after so many above and below.
+/// Returns the place of further texts in a column, after the texts that it has above and below.
 fn place_past(place: TextPlace, above: usize, below: usize) -> Result<TextPlace, Memory>
     ensures { IfOk result (λ p. p ≡ place_past place above below) }
 {
