@@ -1,9 +1,10 @@
 -- The answer when both texts are written, and when something else is called for.
 use Rattle.std.proofs.Common.{◌≡◌, refl, sym, subst, ◌⊎◌, inl, inr, List, [], ℕ, ◌≤◌, length, Option}
 use Rattle.std.specs.Io.KnownBytes.{Consumes, IsAtEnd}
+use Rattle.eng_io.specs.Streams.{FailedAfterPrefix, IsQuiet, ReadAll, Stream, WroteWhole}
 use Rattle.abcps_words.specs.{declared.command.Command.Command, Command.{Asks, limit_of}}
-use Rattle.abcps.specs.Outcome.{IsAnswer, IsAnswered, IsCompleteStatus, IsCommandAnswer, IsQuiet, IsInputRead}
-use Rattle.abcps.specs.Outcome.{ReadsInput, IsRunAnswer, ReadAll, Stream, WroteWhole, FailedAfterPrefix, ReportsLine}
+use Rattle.abcps.specs.Outcome.{IsAnswer, IsAnswered, IsCompleteStatus, IsCommandAnswer, IsInputRead}
+use Rattle.abcps.specs.Outcome.{ReadsInput, IsRunAnswer, ReportsLine}
 use Rattle.abcps.specs.Called.{Called}
 use Rattle.abcps.specs.Calls.{Calls, Refuses}
 use Rattle.abcps.specs.Refusals.{refusal_line, refusal_status}
@@ -87,19 +88,10 @@ run_of words c i o e Status.Usage asked r = absurd r.2
 run_of words c i o e s asked r = (c, asked, r)
 
 -- an input was read to its end, and the request with it was answered
-pub read_obeyed : (c : Command) (before after : Option (List ℕ)) (count_before count_after limit : ℕ) (text : List ℕ)
-    (o e : Stream) (s : Status)
-    → ReadsInput c → limit ≡ limit_of c → Consumes before after text → IsAtEnd after → length text ≤ limit
-    → count_after ≡ count_before
-    → IsAnswer c s text o e
-    → IsCommandAnswer c s
-    (record { before = before; after = after; count_before = count_before; count_after = count_after }) o e
-read_obeyed c before after count_before count_after limit text o e s reads is taken whole within count r =
-    let i : Stream =
-    record { before = before; after = after; count_before = count_before; count_after = count_after } in
-    let read : ReadAll (limit_of c) i text =
-    record { taken = taken; whole = whole; within = subst (λ n. length text ≤ n) is within; count = count } in
-    obeyed_of c i o e text s (read_of c i text reads read) r
+pub read_obeyed : (c : Command) (limit : ℕ) (text : List ℕ) (i o e : Stream) (s : Status)
+    → ReadsInput c → limit ≡ limit_of c → ReadAll limit i text → IsAnswer c s text o e → IsCommandAnswer c s i o e
+read_obeyed c limit text i o e s reads is read r =
+    obeyed_of c i o e text s (read_of c i text reads (subst (λ n. ReadAll n i text) is read)) r
 
 -- a stream that is as it was
 abbrev pub untouched : Option (List ℕ) → ℕ → Stream

@@ -2,6 +2,7 @@
 use Rattle.std.proofs.Common.{◌≡◌, ◌∙◌, ap, sym, subst, arith, ℕ, ◌<◌, ◌^◌, Bool, List, [], ◌++◌, length, Option}
 use Rattle.std.proofs.lemmas.List.{append-nil, append_assoc}
 use Rattle.std.specs.Prelude.{All}
+use Rattle.eng_io.specs.Streams.{WroteWhole}
 use Rattle.abc_fields.specs.declared.paper.Paper.{Paper}
 use Rattle.abc_fields.specs.Papers.{IsGoodPaper}
 use Rattle.ps_text.specs.Document.{document}
@@ -13,7 +14,6 @@ use Rattle.set_pages.specs.Sheet.{IsPagePlan, IsSetUnder, paper_frame, sheet_of}
 use Rattle.set_pages.specs.declared.builder.PageBuilder.{PageBuilder}
 use Rattle.set_pages.specs.declared.plan.PagePlan.{PagePlan}
 use Rattle.set_pages.proofs.Whole.{plan_rises, room_by, sheet_pressed}
-use Rattle.abcps.specs.Outcome.{WroteWhole}
 use Rattle.abcps.specs.Progress.{CanAdd, IsBegun, IsSameProgress, rest_text, text_so_far}
 use Rattle.abcps.specs.declared.building.BookProgress.{BookProgress}
 use Rattle.abcps.proofs.Batches.{no_text}

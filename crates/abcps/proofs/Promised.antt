@@ -2,14 +2,15 @@
 use Rattle.std.proofs.Common.{◌≡◌, refl, sym, ◌∙◌, ap, subst, ◌⊎◌, inl, inr, ℕ, ◌≤◌, List, ◌++◌, length, length-append}
 use Rattle.std.proofs.Common.{append-nil, Option, Some, None, arith}
 use Rattle.std.specs.Io.KnownBytes.{Consumes, IsAtEnd}
+use Rattle.eng_io.specs.Streams.{IsQuiet, ReadAll, ReadTooMuch, Stream, WroteWhole}
 use Rattle.abcps_words.specs.{Command.{Asks, AsksOne, IsListed, limit_of}, declared.command.Command.Command}
 use Rattle.abcps.specs.Called.{Called}
 use Rattle.abcps.specs.Calls.{Calls, CallsOne, NeverBoth, Refuses}
 use Rattle.abcps.specs.Refusals.{IsRefusalStatus}
 use Rattle.abcps.specs.declared.refusing.Refusal.{Refusal}
 use Rattle.abcps.specs.declared.status.Status.{Status}
-use Rattle.abcps.specs.Outcome.{FailedToWrite, HoldsPart, Stream, IsCommandAnswer, IsQuiet, IsInputRead, ReadsInput}
-use Rattle.abcps.specs.Outcome.{IsRunAnswer, ReadAll, ReadTooMuch, WroteWhole, WriteFailed, RefusedInput}
+use Rattle.abcps.specs.Outcome.{FailedToWrite, HoldsPart, IsCommandAnswer, IsInputRead, ReadsInput}
+use Rattle.abcps.specs.Outcome.{IsRunAnswer, WriteFailed, RefusedInput}
 use Rattle.abcps.specs.Promises.{IsDone, IsRunOn, IsRefused, IsReportedOn, AsksWholeText, NoFault, Promises}
 
 -- a source whose bytes are known was read to its end: they are the text

@@ -2,6 +2,8 @@
 use Rattle.std.specs.Prelude.{◌≡◌, ◌⊎◌, ◌<◌, ◌≤◌, ℕ, ◌+◌, List, [], Bool, length, take, Option}
 use Rattle.std.specs.Io.KnownBytes.{Keeps, Appends, Consumes, IsAtEnd}
 use Rattle.eng_io.specs.Causes.{Rose}
+use Rattle.eng_io.specs.Streams.{FailedAfterPrefix, HoldsPrefix, IsQuiet, ReadAll, ReadTooMuch, Stream, TookAtMost}
+use Rattle.eng_io.specs.Streams.{TookPrefix, WroteWhole}
 use Rattle.abc_lines.specs.Books.{book_of}
 use Rattle.ps_text.specs.Document.{SpellsSheet, document}
 use Rattle.ps_text.specs.Range.{IsSheet}
@@ -19,55 +21,6 @@ use Rattle.abcps.specs.Refusals.{refusal_line, refusal_status}
 use Rattle.abcps.specs.declared.refusing.Refusal.{Refusal}
 use Rattle.abcps.specs.declared.status.Status.{Status}
 use Rattle.set_tune.specs.Terms.{Manner, manner_by}
-
--- a stream before and after a call: its bytes, where known, and its count of faults
-pub record Stream : Type 0 where
-  pub before : Option (List ℕ)
-  pub after : Option (List ℕ)
-  pub count_before : ℕ
-  pub count_after : ℕ
-
--- what is observed of a source or a sink with these bytes and faults
-abbrev pub observed : {A : Type 0} → (A → Option (List ℕ)) → (A → ℕ) → A → A → Stream
-observed bytes faults old new =
-    record { before = bytes old; after = bytes new; count_before = faults old; count_after = faults new }
-
--- nothing was read or written, and no fault was counted
-abbrev pub IsQuiet : Stream → Type 0
-IsQuiet s = Keeps s.before s.after × (s.count_after ≡ s.count_before)
-
--- the text is all that a source had left and is within the limit, and no fault was counted
-pub record ReadAll (most : ℕ) (s : Stream) (text : List ℕ) : Type 0 where
-  pub taken : Consumes s.before s.after text
-  pub whole : IsAtEnd s.after
-  pub within : length text ≤ most
-  pub count : s.count_after ≡ s.count_before
-
--- at most this number of bytes was taken
-abbrev pub TookAtMost : ℕ → Stream → Type 0
-TookAtMost most s = (text : List ℕ) × Consumes s.before s.after text × (length text ≤ most)
-
--- one byte past the limit was read
-pub record ReadTooMuch (most : ℕ) (s : Stream) (text : List ℕ) : Type 0 where
-  pub taken : Consumes s.before s.after text
-  pub past : length text ≡ most + 1
-  pub count : s.count_after ≡ s.count_before
-
--- a sink took a whole text
-abbrev pub WroteWhole : Stream → List ℕ → Type 0
-WroteWhole s text = Appends s.before s.after text × (s.count_after ≡ s.count_before)
-
--- a sink failed after a prefix of a text
-abbrev pub FailedAfterPrefix : Stream → List ℕ → Type 0
-FailedAfterPrefix s text = (n : ℕ) × Appends s.before s.after (take n text) × Rose s.count_before s.count_after
-
--- a sink took a prefix of a text, and counted no fault
-abbrev pub TookPrefix : Stream → List ℕ → Type 0
-TookPrefix s text = (n : ℕ) × Appends s.before s.after (take n text) × (s.count_after ≡ s.count_before)
-
--- a sink took a prefix of a text, whatever it counted
-abbrev pub HoldsPrefix : Stream → List ℕ → Type 0
-HoldsPrefix s text = (n : ℕ) × Appends s.before s.after (take n text)
 
 -- a line was written to a sink, which took all of it, or counted a fault and took a prefix
 abbrev pub ReportsLine : Stream → List ℕ → Type 0

@@ -2,6 +2,7 @@
 use Rattle.std.specs.Prelude.{◌≡◌, ◌⊎◌, ◌<◌, ℕ, ◌+◌, ◌^◌, List, [], ◌++◌, All, Bool, true, false, if◌then◌else◌}
 use Rattle.std.specs.Prelude.{flat_map, length, Result, Ok, Err}
 use Rattle.std.specs.List.{AllZip}
+use Rattle.eng_io.specs.Streams.{FailedAfterPrefix, IsQuiet, Stream, TookPrefix, WroteWhole}
 use Rattle.abc_lines.specs.declared.book.TuneText.{TuneText}
 use Rattle.abc_fields.specs.declared.paper.Paper.{Paper}
 use Rattle.abc_fields.specs.Papers.{IsGoodPaper, body_height, body_width}
@@ -24,7 +25,7 @@ use Rattle.set_pages.specs.Drawings.{all_blocks}
 use Rattle.set_tune.specs.Terms.{Manner, Terms}
 use Rattle.abcps.specs.Called.{Called}
 use Rattle.abcps.specs.Books.{CallsPages, status_of}
-use Rattle.abcps.specs.Outcome.{SetStoppedEarly, IsQuiet, Stream, WroteWhole, FailedAfterPrefix, TookPrefix}
+use Rattle.abcps.specs.Outcome.{SetStoppedEarly}
 use Rattle.abcps.specs.declared.building.WrittenBook.{WrittenBook}
 use Rattle.abcps.specs.declared.building.BookProgress.{BookProgress}
 use Rattle.abcps.specs.declared.printing.NextOutcomes.{NextOutcomes}

@@ -1,11 +1,12 @@
 -- The promises of a run, one fact per name.
 use Rattle.std.specs.Prelude.{◌≡◌, ◌≢◌, ◌⊎◌, ◌≤◌, ◌↔◌, List, ℕ, length, Some}
 use Rattle.eng_io.specs.Causes.{Rose}
+use Rattle.eng_io.specs.Streams.{IsQuiet, ReadTooMuch, Stream, TookAtMost, WroteWhole}
 use Rattle.abcps_words.specs.Command.{Asks, IsListed, limit_of}
 use Rattle.abcps_words.specs.declared.command.Command.{Command}
 use Rattle.abcps_words.specs.Usage.{usage_line}
-use Rattle.abcps.specs.Outcome.{FailedToWrite, HoldsPart, Stream, IsQuiet, IsInputRead, ReadsInput, ReadTooMuch}
-use Rattle.abcps.specs.Outcome.{TookAtMost, WroteWhole, ReportsLine}
+use Rattle.abcps.specs.Outcome.{FailedToWrite, HoldsPart, IsInputRead, ReadsInput}
+use Rattle.abcps.specs.Outcome.{ReportsLine}
 use Rattle.abcps.specs.Called.{Called}
 use Rattle.abcps.specs.Calls.{Calls, Refuses, by_one_job}
 use Rattle.abcps.specs.Refusals.{IsRefusalStatus, refusal_line, refusal_status}

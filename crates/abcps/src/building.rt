@@ -1,10 +1,11 @@
 ghost use Rattle.std.specs.Prelude.{◌≡◌, List, All, IfOk, OnOk, flat_map};
+ghost use Rattle.eng_io.specs.Streams.{observed};
 ghost use Rattle.abc_fields.specs.declared.paper.Paper.{Paper};
 ghost use Rattle.abc_fields.specs.Papers.{IsGoodPaper, body_width};
 ghost use Rattle.ps_text.specs.Prolog.{prolog};
 ghost use Rattle.set_book.specs.declared.outcome.Outcome.{Outcome};
 ghost use Rattle.set_pages.specs.{declared.plan.PagePlan.PagePlan, Builder.CanDrawOutcome, Sheet.paper_frame};
-ghost use Rattle.abcps.specs.Outcome.{IsCompleteStatus, observed};
+ghost use Rattle.abcps.specs.Outcome.{IsCompleteStatus};
 ghost use Rattle.abcps.specs.Progress.{CanAdd, IsBegun, IsFinished, IsRunning, IsSameProgress, WillRun, WroteOrStopped};
 ghost use Rattle.abcps.specs.Progress.{status_if};
 

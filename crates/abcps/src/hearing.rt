@@ -1,6 +1,7 @@
 ghost use Rattle.std.specs.Prelude.{◌≡◌, [], IfOk};
 ghost use Rattle.ps_heard.specs.HeardText.{heard_text};
-ghost use Rattle.abcps.specs.Outcome.{IsAnswer, IsAnswered, observed};
+ghost use Rattle.eng_io.specs.Streams.{observed};
+ghost use Rattle.abcps.specs.Outcome.{IsAnswer, IsAnswered};
 ghost use Rattle.abcps.specs.declared.status.Status.{Status};
 ghost use Rattle.abcps_words.specs.declared.command.Command.{Command};
 

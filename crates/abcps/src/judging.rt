@@ -1,6 +1,7 @@
 ghost use Rattle.std.specs.{Prelude.{◌≡◌, [], IfOk}, List.list_any};
+ghost use Rattle.eng_io.specs.Streams.{observed};
 ghost use Rattle.abcps.specs.Calls.{is_dearer, is_dearer_choice, status_by, verdicts_text};
-ghost use Rattle.abcps.specs.Outcome.{IsAnswer, IsAnswered, IsCompleteStatus, observed};
+ghost use Rattle.abcps.specs.Outcome.{IsAnswer, IsAnswered, IsCompleteStatus};
 ghost use Rattle.abcps_words.specs.declared.command.Command.{Command};
 
 use crate::refusing::Refusal;

@@ -1,6 +1,8 @@
 ghost use Rattle.abcps_words.specs.Limits.{tune_limit};
 ghost use Rattle.std.specs.Prelude.{◌≡◌, ◌≤◌, []};
-ghost use Rattle.{abcps.specs.Outcome.{IsAnswer, observed}, abcps_words.specs.declared.command.Command.{Command}};
+ghost use Rattle.eng_io.specs.Streams.{observed};
+ghost use Rattle.abcps_words.specs.declared.command.Command.{Command};
+ghost use Rattle.abcps.specs.Outcome.{IsAnswer};
 
 use crate::reporting::write_both;
 use crate::status::Status;

@@ -1,7 +1,8 @@
 ghost use Rattle.std.specs.Prelude.{◌≡◌, ◌≤◌, [], IfOk, length};
 ghost use Rattle.ps_reports.specs.PaintText.{paint_text};
+ghost use Rattle.eng_io.specs.Streams.{observed};
 ghost use Rattle.abcps.specs.Calls.{budget_of};
-ghost use Rattle.abcps.specs.Outcome.{IsAnswer, IsAnswered, observed};
+ghost use Rattle.abcps.specs.Outcome.{IsAnswer, IsAnswered};
 ghost use Rattle.abcps.specs.declared.status.Status.{Status};
 ghost use Rattle.abcps_words.specs.declared.command.Command.{Command};
 

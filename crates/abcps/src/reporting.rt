@@ -1,7 +1,8 @@
 ghost use Rattle.std.specs.Prelude.{◌≡◌, ◌⊎◌, IfOk};
+ghost use Rattle.eng_io.specs.Streams.{FailedAfterPrefix, IsQuiet, WroteWhole, observed};
 ghost use Rattle.abcps_words.specs.Usage.{usage_line};
-ghost use Rattle.abcps.specs.Outcome.{IsAnswered, IsCompleteStatus, IsQuiet, WroteWhole, FailedAfterPrefix};
-ghost use Rattle.abcps.specs.Outcome.{ReportsLine, observed};
+ghost use Rattle.abcps.specs.Outcome.{IsAnswered, IsCompleteStatus};
+ghost use Rattle.abcps.specs.Outcome.{ReportsLine};
 ghost use Rattle.abcps.specs.Refusals.{refusal_line, refusal_status};
 ghost use Rattle.abcps.specs.declared.status.Status.{Status};
 

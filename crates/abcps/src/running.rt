@@ -1,7 +1,8 @@
 ghost use Rattle.std.specs.Prelude.{◌≡◌, ◌≤◌, length, map, string_bytes};
+ghost use Rattle.eng_io.specs.Streams.{observed};
 ghost use Rattle.abcps_words.specs.Command.{IsGoodCommand, limit_of};
 ghost use Rattle.abcps.specs.Calls.{CallsOne, NeverBoth};
-ghost use Rattle.abcps.specs.Outcome.{IsAnswer, IsCommandAnswer, ReadsInput, IsRunAnswer, observed};
+ghost use Rattle.abcps.specs.Outcome.{IsAnswer, IsCommandAnswer, ReadsInput, IsRunAnswer};
 ghost use Rattle.abcps.specs.Promises.{Promises};
 
 use crate::books::{set, systems, trial};

@@ -1,7 +1,7 @@
 ghost use Rattle.std.specs.{Prelude.◌≡◌, IoError.error_kind};
+ghost use Rattle.eng_io.specs.Streams.{observed};
 ghost use Rattle.abcps.specs.Wordless.{IsWordless, cause_of};
 ghost use Rattle.abcps.specs.declared.wordless.WordsError.{WordsError};
-ghost use Rattle.abcps.specs.Outcome.{observed};
 
 use crate::reporting::report_usage;
 use crate::status::Status;

@@ -1,3 +1,3 @@
 pub mod Causes
-pub mod Calls
 pub mod Memories
+pub mod Streams

@@ -1,5 +1,5 @@
-ghost use Rattle.std.specs.Prelude.{◌≡◌, ℕ, ◌≤◌, ◌^◌};
-ghost use Rattle.eng_io.specs.Calls.{ReadTook, ReadCounts};
+ghost use Rattle.std.specs.Prelude.{◌≤◌, ◌^◌};
+ghost use Rattle.eng_io.specs.Streams.{ReadOrStopped, observed};
 
 use crate::traits::{Failed, Source};
 use mus_units::{Memory, Text};
@@ -27,8 +27,7 @@ pub enum ReadError {
 /// `Fault` is returned only if the source's fault count rose. Each iteration takes a byte or is the last.
 pub fn read_all<S: Source>(alloc: Global, src: &mut S, limit: u64) -> Result<Text, ReadError>
     requires { limit ≤ 2 ^ 40 }
-    ensures took { ReadTook (S.left src.old) (S.left src.new) limit result }
-    ensures counts { ReadCounts (S.faults src.old) (S.faults src.new) result }
+    ensures { ReadOrStopped limit (observed S.left S.faults src.old src.new) result }
 {
     let mut text = Text::new(alloc);
     let mut buf = [0u8; MOST];

@@ -1,5 +1,4 @@
-ghost use Rattle.std.specs.Prelude.{◌≡◌, ℕ, ◌≤◌};
-ghost use Rattle.eng_io.specs.Calls.{WroteAll, WriteCounts};
+ghost use Rattle.eng_io.specs.Streams.{WroteOrFailed, observed};
 
 use crate::traits::{Failed, Sink};
 use thiserror::Error;
@@ -14,8 +13,7 @@ pub struct WriteError {
 /// Writes all of `b`. On an error exactly the first `written` bytes were written. Takes no memory. Each iteration
 /// writes a byte or is the last.
 pub fn write_all<O: Sink>(sink: &mut O, b: &[u8]) -> Result<(), WriteError>
-    ensures wrote { WroteAll (O.taken sink.old) (O.taken sink.new) b.now result }
-    ensures counts { WriteCounts (O.faults sink.old) (O.faults sink.new) result }
+    ensures { WroteOrFailed (observed O.taken O.faults sink.old sink.new) b.now result }
 {
     let mut written = 0;
     while written < b.len() {

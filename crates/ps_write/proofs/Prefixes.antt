@@ -9,6 +9,7 @@ use Rattle.ps_text.specs.Document.{document, numbered, document_page, trailer}
 use Rattle.ps_text.specs.Prolog.{prolog}
 use Rattle.ps_text.specs.declared.sheet.Page.{Page}
 use Rattle.ps_text.specs.declared.sheet.Sheet.{Sheet}
+use Rattle.eng_io.specs.Streams.{Stream}
 use Rattle.ps_write.specs.{Written.{WrotePrefix, counted_from}, declared.steps.DocError.DocError}
 
 -- a prefix of the text went out, after which this many bytes were written, and the rest of it follows
@@ -41,36 +42,49 @@ sent_all old new start written all s =
       subst (λ (text : List ℕ). written ≡ start + length text) e s.count,
     )
 
+-- the rest of what was written of a text, as one stream
+abbrev pub stream : Option (List ℕ) → Option (List ℕ) → ℕ → ℕ → Stream
+stream before after count_before count_after =
+    record { before = before; after = after; count_before = count_before; count_after = count_after }
+
 -- a first part that failed
-pub wrote_first : (old new : Option (List ℕ)) (text rest : List ℕ) (e : DocError)
-    → WrotePrefix old new text e → WrotePrefix old new (text ++ rest) e
-wrote_first old new text rest (DocError.Write e) w =
-    (rw (take-append-le e.written text rest w.1) w.0, omega (arith, length-append text rest, w.1))
-wrote_first old new text rest DocError.Memory w =
-    (w.0, rw (take-append-le w.0 text rest w.2) w.1, omega (arith, length-append text rest, w.2))
+pub wrote_first : (s : Stream) (text rest : List ℕ) (e : DocError)
+    → WrotePrefix s text e → WrotePrefix s (text ++ rest) e
+wrote_first s text rest (DocError.Write e) w =
+    (rw (take-append-le e.written text rest w.1) w.0, omega (arith, length-append text rest, w.1), w.2)
+wrote_first s text rest DocError.Memory w =
+    (w.0, (rw (take-append-le w.0 text rest w.1.1) w.1.0, omega (arith, length-append text rest, w.1.1), w.1.2))
 
 -- a second part that failed, counted for both
-pub wrote_second : (old mid new : Option (List ℕ)) (prefix text : List ℕ) (n : ℕ) (e : DocError)
-    → length prefix ≡ n → Appends old mid prefix → WrotePrefix mid new text e
-    → WrotePrefix old new (prefix ++ text) (counted_from n e)
-wrote_second old mid new prefix text n (DocError.Write e) k p w = (
-  rw (← k, take-append-add prefix text e.written) (Appends-trans old mid new prefix (take e.written text) p w.0),
+pub wrote_second : (old : Option (List ℕ)) (count : ℕ) (s : Stream) (prefix text : List ℕ) (n : ℕ) (e : DocError)
+    → length prefix ≡ n → Appends old s.before prefix → s.count_before ≡ count → WrotePrefix s text e
+    → WrotePrefix (stream old s.after count s.count_after) (prefix ++ text) (counted_from n e)
+wrote_second old count s prefix text n (DocError.Write e) k p same w = (
+  rw (← k, take-append-add prefix text e.written)
+      (Appends-trans old s.before s.after prefix (take e.written text) p w.0),
   omega (arith, length-append prefix text, w.1, k),
+  rw same at w.2,
 )
-wrote_second old mid new prefix text n DocError.Memory k p w = (
+wrote_second old count s prefix text n DocError.Memory k p same w = (
   n + w.0,
-  rw (← k, take-append-add prefix text w.0) (Appends-trans old mid new prefix (take w.0 text) p w.1),
-  omega (arith, length-append prefix text, w.2, k),
+  (
+    rw (← k, take-append-add prefix text w.0) (Appends-trans old s.before s.after prefix (take w.0 text) p w.1.0),
+    omega (arith, length-append prefix text, w.1.1, k),
+    w.1.2 ∙ same,
+  ),
 )
 
 -- a part that failed after n bytes, counted for the whole
-pub wrote_part : (old mid new : Option (List ℕ)) (start before n : ℕ) (text rest all : List ℕ) (e : DocError)
-    → Sent old mid start before (text ++ rest) all → start + n ≡ before → WrotePrefix mid new text e
-    → WrotePrefix old new all (counted_from n e)
-wrote_part old mid new start before n text rest all e s k w =
-    subst (λ (bytes : List ℕ). WrotePrefix old new bytes (counted_from n e)) (sym s.whole)
-    (wrote_second old mid new s.prefix (text ++ rest) n e (omega (arith, s.count, k)) s.sent
-    (wrote_first mid new text rest e w))
+pub wrote_part : (old : Option (List ℕ)) (count : ℕ) (s : Stream) (start before n : ℕ) (text rest all : List ℕ)
+    (e : DocError)
+    → Sent old s.before start before (text ++ rest) all → start + n ≡ before → s.count_before ≡ count
+    → WrotePrefix s text e
+    → WrotePrefix (stream old s.after count s.count_after) all (counted_from n e)
+wrote_part old count s start before n text rest all e sent k same w =
+    subst (λ (bytes : List ℕ). WrotePrefix (stream old s.after count s.count_after) bytes (counted_from n e))
+    (sym sent.whole)
+    (wrote_second old count s sent.prefix (text ++ rest) n e (omega (arith, sent.count, k)) sent.sent same
+    (wrote_first s text rest e w))
 
 -- a document is its prolog, its pages and its trailer
 pub document_start : (s : Sheet)

@@ -1,25 +1,25 @@
 -- What a step of a writer, or a whole document, writes to a sink.
-use Rattle.std.specs.Prelude.{◌≡◌, ℕ, ◌+◌, ◌^◌, ◌<◌, ◌≤◌, length, take, List, Option, Result, Ok, Err, ⊤}
+use Rattle.std.specs.Prelude.{◌≡◌, ℕ, ◌+◌, ◌^◌, ◌<◌, ◌≤◌, length, take, List, Result, Ok, Err, ⊤}
 use Rattle.std.specs.Io.KnownBytes.{Appends}
-use Rattle.eng_io.specs.Causes.{Rose}
+use Rattle.eng_io.specs.Streams.{FailedAfter, Stream, WroteWhole}
 use Rattle.ps_write.specs.declared.steps.DocError.{DocError}
 use Rattle.ps_write.specs.declared.steps.DocWriter.{DocWriter}
 
--- exactly the first bytes that the error counts went out, or, if memory ran out, a prefix of the text
-abbrev pub WrotePrefix : Option (List ℕ) → Option (List ℕ) → List ℕ → DocError → Type 0
-WrotePrefix old new text (DocError.Write e) = Appends old new (take e.written text) × (e.written ≤ length text)
-WrotePrefix old new text DocError.Memory = (n : ℕ) × Appends old new (take n text) × (n ≤ length text)
+-- memory ran out after exactly the first n bytes of a text, and no fault was counted
+abbrev pub RanOutAfter : ℕ → Stream → List ℕ → Type 0
+RanOutAfter n s text =
+    Appends s.before s.after (take n text) × (n ≤ length text) × (s.count_after ≡ s.count_before)
 
--- the whole text went out, or a prefix of it
-abbrev pub Wrote : {T : Type 0} → Option (List ℕ) → Option (List ℕ) → List ℕ → Result T DocError → Type 0
-Wrote old new text (Ok _) = Appends old new text
-Wrote old new text (Err e) = WrotePrefix old new text e
+-- exactly the first bytes that the error counts were written, or, if memory ran out, a prefix of the text
+abbrev pub WrotePrefix : Stream → List ℕ → DocError → Type 0
+WrotePrefix s text (DocError.Write e) = FailedAfter e.written s text
+WrotePrefix s text DocError.Memory = (n : ℕ) × RanOutAfter n s text
 
--- a write fails only if the sink's fault count rose, and any other result leaves the count unchanged
-abbrev pub Counted : {T : Type 0} → ℕ → ℕ → Result T DocError → Type 0
-Counted before now (Ok _) = now ≡ before
-Counted before now (Err (DocError.Write e)) = Rose before now
-Counted before now (Err DocError.Memory) = now ≡ before
+-- The whole text was written, or a prefix of it. A write fails only if the sink's fault count rose, and any other
+-- result leaves the count unchanged.
+abbrev pub Wrote : {T : Type 0} → Stream → List ℕ → Result T DocError → Type 0
+Wrote s text (Ok _) = WroteWhole s text
+Wrote s text (Err e) = WrotePrefix s text e
 
 -- the bytes written before an error, added to those before, are fewer than 2^64
 abbrev pub FitsError : ℕ → DocError → Type 0

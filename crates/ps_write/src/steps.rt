@@ -1,7 +1,8 @@
 ghost use Rattle.std.specs.Prelude.{◌≡◌, ◌+◌, ◌-◌, ◌^◌, ◌<◌, length, IfOk};
+ghost use Rattle.eng_io.specs.Streams.{observed};
 ghost use Rattle.ps_text.specs.{Document.document_page, Document.trailer, Prolog.prolog, Range.IsFrame, Range.IsPage};
 ghost use Rattle.ps_write.specs.declared.steps.DocError.TheVariants as errors;
-ghost use Rattle.ps_write.specs.Written.{Wrote, Counted, FitsAfter, IsWriterAt};
+ghost use Rattle.ps_write.specs.Written.{FitsAfter, IsWriterAt, Wrote};
 
 use eng_io::{Sink, WriteError, write_all};
 use mus_units::{Memory, Text};
@@ -37,8 +38,7 @@ pub struct DocWriter {
 
 /// Writes a piece after `before` bytes of a document. Returns the number of bytes of the document after it.
 pub(crate) fn send<O: Sink>(sink: &mut O, piece: &[u8], before: u64) -> Result<u64, DocError>
-    ensures wrote { Wrote (O.taken sink.old) (O.taken sink.new) piece.now result }
-    ensures counts { Counted (O.faults sink.old) (O.faults sink.new) result }
+    ensures wrote { Wrote (observed O.taken O.faults sink.old sink.new) piece.now result }
     ensures fits { FitsAfter before result }
     ensures sum { IfOk result (λ n. n ≡ before + length piece.now) }
 {
@@ -55,8 +55,7 @@ pub(crate) fn send<O: Sink>(sink: &mut O, piece: &[u8], before: u64) -> Result<u
 /// fault count rose, and `Ok` only if it didn't and the whole text went out.
 pub fn begin<O: Sink>(alloc: Global, frame: &Frame, sink: &mut O) -> Result<DocWriter, DocError>
     requires { IsFrame frame.now }
-    ensures wrote { Wrote (O.taken sink.old) (O.taken sink.new) (prolog frame.now) result }
-    ensures counts { Counted (O.faults sink.old) (O.faults sink.new) result }
+    ensures wrote { Wrote (observed O.taken O.faults sink.old sink.new) (prolog frame.now) result }
     ensures writer { IfOk result (λ w. IsWriterAt 0 0 (prolog frame.now) w) }
 {
     let mut text = Text::new(alloc);
@@ -74,8 +73,7 @@ pub fn page<O: Sink>(
 ) -> Result<DocWriter, DocError>
     requires good { IsPage p.now }
     requires few { w.pages < 2 ^ 32 - 1 }
-    ensures wrote { Wrote (O.taken sink.old) (O.taken sink.new) (document_page (w.pages + 1) p.now) result }
-    ensures counts { Counted (O.faults sink.old) (O.faults sink.new) result }
+    ensures wrote { Wrote (observed O.taken O.faults sink.old sink.new) (document_page (w.pages + 1) p.now) result }
     ensures fits { FitsAfter w.written result }
     ensures writer { IfOk result (λ v. IsWriterAt (w.pages + 1) w.written (document_page (w.pages + 1) p.now) v) }
 {
@@ -90,8 +88,7 @@ pub fn page<O: Sink>(
 
 /// Writes the end of a document, with the number of its pages.
 pub fn finish<O: Sink>(alloc: Global, w: DocWriter, sink: &mut O) -> Result<(), DocError>
-    ensures wrote { Wrote (O.taken sink.old) (O.taken sink.new) (trailer w.pages) result }
-    ensures counts { Counted (O.faults sink.old) (O.faults sink.new) result }
+    ensures wrote { Wrote (observed O.taken O.faults sink.old sink.new) (trailer w.pages) result }
     ensures fits { FitsAfter w.written result }
 {
     let mut text = Text::new(alloc);

@@ -1,7 +1,8 @@
 ghost use Rattle.std.specs.Prelude.{◌≡◌, ◌+◌, ◌-◌, ◌^◌, ◌<◌, Err};
+ghost use Rattle.eng_io.specs.Streams.{observed};
 ghost use Rattle.ps_text.specs.Document.{document};
 ghost use Rattle.ps_text.specs.Range.{IsSheet};
-ghost use Rattle.ps_write.specs.Written.{Wrote, Counted, FitsError, counted_from};
+ghost use Rattle.ps_write.specs.Written.{FitsError, Wrote, counted_from};
 
 use crate::steps::{DocError, begin, finish, page};
 use eng_io::{Sink, WriteError};
@@ -25,8 +26,7 @@ fn counted_from(before: u64, e: DocError) -> DocError
 /// `written` bytes of the document went out; `Ok` only if the count didn't rise and the whole document went out.
 pub fn write_document<O: Sink>(alloc: Global, s: &Sheet, sink: &mut O) -> Result<(), DocError>
     requires { IsSheet s.now }
-    ensures wrote { Wrote (O.taken sink.old) (O.taken sink.new) (document s.now) result }
-    ensures counts { Counted (O.faults sink.old) (O.faults sink.new) result }
+    ensures { Wrote (observed O.taken O.faults sink.old sink.new) (document s.now) result }
 {
     let mut w = begin(alloc, &s.frame, sink)?;
     for p in s.pages.as_slice() {

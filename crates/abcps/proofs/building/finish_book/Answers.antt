@@ -1,8 +1,7 @@
 use Rattle.std.proofs.Common.{◌≡◌, ◌∙◌, ap, rules, subst, sym, Err}
 use Rattle.ps_text.specs.Document.{trailer}
-use Rattle.ps_write.specs.declared.steps.DocWriter.{DocWriter}
 use Rattle.set_pages.specs.Flow.{ending}
-use Rattle.abcps.specs.Outcome.{WroteWhole}
+use Rattle.eng_io.specs.Streams.{WroteWhole}
 use Rattle.abcps.specs.Progress.{IsFinished, StoppedAfterPrefix, rest_text, status_if}
 use Rattle.abcps.specs.Status.{status_after}
 use Rattle.abcps.specs.declared.status.Status.{Status}
@@ -26,8 +25,7 @@ returns-in_err-writer g c plan paper outcomes running =
     let o = stream (g.O.Sink.taken c.args.output.now) (g.O.Sink.taken c.send_pages.new.sink)
     (g.O.Sink.faults c.args.output.now) (g.O.Sink.faults c.send_pages.new.sink) in
     let text : c.as_slice.result.now ≡ ending begun = search rules in
-    let stopped = step_stopped DocWriter _ _ _ _ c.as_slice.result.now c.in_err-writer.field-0.0
-    c.in_err-writer.ensures.wrote c.in_err-writer.ensures.counts in
+    let stopped = step_stopped o c.as_slice.result.now c.in_err-writer.field-0.0 c.in_err-writer.ensures.wrote in
     subst (λ r. IsFinished outcomes begun o r) (sym is)
     (stopped_longer why o (ending begun) (trailer begun) (subst (λ t. StoppedAfterPrefix why o t) text stopped))
 
@@ -42,13 +40,12 @@ returns-in_err-finish g c plan paper outcomes running =
     (g.O.Sink.faults c.args.output.now) (g.O.Sink.faults c.finish.new.sink) in
     let rest = stream (g.O.Sink.taken c.send_pages.new.sink) (g.O.Sink.taken c.finish.new.sink)
     (g.O.Sink.faults c.send_pages.new.sink) (g.O.Sink.faults c.finish.new.sink) in
-    let stopped = step_stopped (Unit {0}) _ _ _ _ _ c.in_err-finish.field-0.0 c.in_err-finish.ensures.wrote
-    c.in_err-finish.ensures.counts in
+    let stopped = step_stopped rest _ c.in_err-finish.field-0.0 c.in_err-finish.ensures.wrote in
     subst (λ r. IsFinished outcomes begun o r) (sym is)
     (stopped_after (g.O.Sink.taken c.args.output.now) (g.O.Sink.taken c.send_pages.new.sink)
     (g.O.Sink.taken c.finish.new.sink) (g.O.Sink.faults c.args.output.now) (g.O.Sink.faults c.send_pages.new.sink)
-    (g.O.Sink.faults c.finish.new.sink) (ending begun) (rw text at c.in_ok-writer.ensures.wrote)
-    c.in_ok-writer.ensures.counts why (trailer begun)
+    (g.O.Sink.faults c.finish.new.sink) (ending begun) (rw text at c.in_ok-writer.ensures.wrote.0)
+    c.in_ok-writer.ensures.wrote.1 why (trailer begun)
     (subst (λ n. StoppedAfterPrefix why rest (trailer n)) pages stopped))
 
 pub returns : goal.returns
@@ -61,9 +58,9 @@ returns g c plan paper outcomes running =
       took_after (g.O.Sink.taken c.args.output.now) (g.O.Sink.taken c.send_pages.new.sink)
           (g.O.Sink.taken c.finish.new.sink) (g.O.Sink.faults c.args.output.now)
           (g.O.Sink.faults c.send_pages.new.sink) (g.O.Sink.faults c.finish.new.sink) (ending begun)
-          (rw text at c.in_ok-writer.ensures.wrote) c.in_ok-writer.ensures.counts (trailer begun)
+          (rw text at c.in_ok-writer.ensures.wrote.0) c.in_ok-writer.ensures.wrote.1 (trailer begun)
           (subst (λ n. WroteWhole rest (trailer n)) pages
-          (c.in_ok-finish.ensures.wrote, c.in_ok-finish.ensures.counts)),
+          c.in_ok-finish.ensures.wrote),
       running.reported,
       c.status_if.ensures.value ∙ ap status_if running.refused,
       search rules,

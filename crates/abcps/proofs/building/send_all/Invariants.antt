@@ -1,5 +1,6 @@
 use Rattle.std.{proofs.Common.{◌≡◌, ◌++◌, flat_map, length, List, ℕ}, specs.Vec.Iter.{into_iter_items, into_iter_len}}
-use Rattle.abcps.{specs.Outcome.WroteWhole, proofs.Sent.stream}
+use Rattle.eng_io.specs.Streams.{WroteWhole}
+use Rattle.abcps.proofs.Sent.{stream}
 use Rattle.abcps.proofs.building.send_all.Given as goal
 
 abbrev pub invariant-loop-text : goal.invariant-loop-text
