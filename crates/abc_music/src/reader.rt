@@ -266,7 +266,7 @@ fn token(alloc: Global, bang: bool, found: BorrowedToken<'_>) -> Result<Option<T
         BorrowedToken::Broken { right, dots } => Token::Broken { right, dots },
         BorrowedToken::Bar(bar) => Token::Bar(bar),
         BorrowedToken::Ending(text) => Token::Ending(Text::from_slice(alloc, text)?),
-        BorrowedToken::Letter(byte) => Token::Deco(deco_of_letter(byte)),
+        BorrowedToken::Letter(byte) => Token::Deco(deco_of_letter(alloc, byte)?),
         BorrowedToken::Named(name) => Token::Deco(deco_of_name(alloc, name)?),
         BorrowedToken::Says(text) => Token::Says(Text::from_slice(alloc, text)?),
         BorrowedToken::Inline { letter, text } => {

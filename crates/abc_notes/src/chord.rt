@@ -216,7 +216,7 @@ fn add_deco(alloc: Global, decos: &mut Row<Deco>, item: InnerPiece<'_>) -> Resul
     ensures { OnOk result (decos.new ≡ decos.old ++ deco_of (sense_of item.entry)) }
 {
     match item {
-        InnerPiece::Letter(byte) => decos.push(deco_of_letter(byte)),
+        InnerPiece::Letter(byte) => decos.push(deco_of_letter(alloc, byte)?),
         InnerPiece::Named(name) => decos.push(deco_of_name(alloc, name)?),
         InnerPiece::Note { .. } | InnerPiece::Tie | InnerPiece::Passed => Ok(()),
     }

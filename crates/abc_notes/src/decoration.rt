@@ -1,28 +1,147 @@
-ghost use Rattle.std.specs.Prelude.{◌≡◌, IfOk};
-ghost use Rattle.abc_notes.specs.Decorations.{deco_of_letter, deco_of_name, is_named, deco_of_text, is_accent};
-ghost use Rattle.abc_notes.specs.Decorations.{is_dynamic, is_finger};
+//! The table of decorations: what names each, for the readers and for the speller.
+
+ghost use Rattle.std.specs.Prelude.{◌≡◌, IfOk, find, map};
+ghost use Rattle.std.specs.Option.{option_copied};
+ghost use Rattle.abc_notes.specs.Decorations.{deco_name, deco_of_letter, deco_of_name, deco_of_text, deco_row};
+ghost use Rattle.abc_notes.specs.Decorations.{drawn_decos, has_letter, has_name, is_deco_letter, is_dynamic, is_finger};
+ghost use Rattle.abc_notes.specs.Decorations.{is_named, is_one_of};
 
 use mus_units::{Deco, Memory, Text};
 use std::alloc::Global;
 
+/// What names a decoration: a letter or none; its plain name, which is the one that is written; and its other names.
+#[derive(Clone, Copy)]
+struct DecoRow<'a> {
+    letter: Option<u8>,
+    name: &'a [u8],
+    others: &'static [&'static [u8]],
+}
+
+fn row<'a>(letter: Option<u8>, name: &'a [u8], others: &'static [&'static [u8]]) -> DecoRow<'a>
+    ensures letter { result.letter ≡ letter }
+    ensures name { result.name.now ≡ name.now }
+    ensures others { map (λ name. name.now) result.others.now ≡ map (λ name. name.now) others.now }
+{
+    DecoRow {
+        letter,
+        name,
+        others,
+    }
+}
+
+fn deco_row(deco: &Deco) -> DecoRow<'_>
+    ensures letter { result.letter ≡ (deco_row deco.now).letter }
+    ensures name { result.name.now ≡ (deco_row deco.now).name }
+    ensures others { map (λ name. name.now) result.others.now ≡ (deco_row deco.now).others }
+{
+    match deco {
+        Deco::Ks => row(Some(b'.'), b"staccato", &[]),
+        Deco::Kr => row(Some(b'~'), b"roll", &[]),
+        Deco::Kf => row(Some(b'H'), b"fermata", &[]),
+        Deco::Ka => row(Some(b'L'), b"accent", &[b"emphasis", b">"]),
+        Deco::Km => row(Some(b'M'), b"lowermordent", &[b"mordent"]),
+        Deco::Kc => row(Some(b'O'), b"coda", &[]),
+        Deco::Kp => row(Some(b'P'), b"uppermordent", &[b"pralltriller"]),
+        Deco::Kg => row(Some(b'S'), b"segno", &[]),
+        Deco::Kt => row(Some(b'T'), b"trill", &[]),
+        Deco::Ku => row(Some(b'u'), b"upbow", &[]),
+        Deco::Kd => row(Some(b'v'), b"downbow", &[]),
+        Deco::Kn => row(None, b"tenuto", &[]),
+        Deco::Below(text) => row(None, text.as_slice(), &[]),
+        Deco::Above(text) => row(None, text.as_slice(), &[]),
+        Deco::Quiet(text) => row(None, text.as_slice(), &[]),
+    }
+}
+
+/// Returns the decorations that have a glyph.
+#[tactic(auto, unfolding(crate::specs::Decorations::drawn_decos))]
+fn drawn_decos() -> [Deco; 12]
+    ensures { result ≡ drawn_decos }
+{
+    [
+        Deco::Ks,
+        Deco::Kr,
+        Deco::Kf,
+        Deco::Ka,
+        Deco::Km,
+        Deco::Kc,
+        Deco::Kp,
+        Deco::Kg,
+        Deco::Kt,
+        Deco::Ku,
+        Deco::Kd,
+        Deco::Kn,
+    ]
+}
+
+/// Returns the plain name of a decoration, or a text's own name.
+pub fn deco_name(deco: &Deco) -> &[u8]
+    ensures { result.now ≡ deco_name deco.now }
+{
+    deco_row(deco).name
+}
+
+/// Returns whether this is a letter that names a decoration. The dot is none, since it means other things too.
+pub fn is_deco_letter(byte: u8) -> bool
+    ensures { result ≡ is_deco_letter byte }
+{
+    byte == b'~'
+        || byte == b'H'
+        || byte == b'L'
+        || byte == b'M'
+        || byte == b'O'
+        || byte == b'P'
+        || byte == b'S'
+        || byte == b'T'
+        || byte == b'u'
+        || byte == b'v'
+}
+
+fn has_letter(byte: u8, deco: &Deco) -> bool
+    ensures { result ≡ has_letter byte deco.now }
+{
+    deco_row(deco).letter == Some(byte)
+}
+
+fn with_letter(byte: u8, decos: &[Deco]) -> Option<&Deco>
+    ensures { option_copied result ≡ find (has_letter byte) decos.now }
+{
+    decos.iter().find(|deco| has_letter(byte, deco))
+}
+
 /// Returns the decoration that a letter names.
 #[tactic(auto, unfolding(crate::specs::Decorations::deco_of_letter))]
-pub fn deco_of_letter(byte: u8) -> Deco
-    ensures { result ≡ deco_of_letter byte }
+pub fn deco_of_letter(alloc: Global, byte: u8) -> Result<Deco, Memory>
+    ensures { IfOk result (λ it. it ≡ deco_of_letter byte) }
 {
-    match byte {
-        b'.' => Deco::Ks,
-        b'~' => Deco::Kr,
-        b'H' => Deco::Kf,
-        b'L' => Deco::Ka,
-        b'M' => Deco::Km,
-        b'O' => Deco::Kc,
-        b'P' => Deco::Kp,
-        b'S' => Deco::Kg,
-        b'T' => Deco::Kt,
-        b'u' => Deco::Ku,
-        _ => Deco::Kd,
+    match with_letter(byte, &drawn_decos()) {
+        Some(deco) => deco.copy(alloc),
+        None => Ok(Deco::Ks),
     }
+}
+
+fn has_name(name: &[u8], deco: &Deco) -> bool
+    ensures { result ≡ has_name name.now deco.now }
+{
+    let row = deco_row(deco);
+    is_word(name, row.name) || is_one_of(row.others, name)
+}
+
+fn is_one_of(words: &[&[u8]], name: &[u8]) -> bool
+    ensures { result ≡ is_one_of (map (λ word. word.now) words.now) name.now }
+{
+    for word in words {
+        if is_word(name, word) {
+            return true;
+        }
+    }
+    false
+}
+
+fn with_name<'a>(name: &[u8], decos: &'a [Deco]) -> Option<&'a Deco>
+    ensures { option_copied result ≡ find (has_name name.now) decos.now }
+{
+    decos.iter().find(|deco| has_name(name, deco))
 }
 
 /// Returns the decoration that a name between exclamation marks means.
@@ -30,33 +149,10 @@ pub fn deco_of_letter(byte: u8) -> Deco
 pub fn deco_of_name(alloc: Global, name: &[u8]) -> Result<Deco, Memory>
     ensures { IfOk result (λ it. it ≡ deco_of_name name.now) }
 {
-    Ok(if is_word(name, b"staccato") {
-        Deco::Ks
-    } else if is_word(name, b"roll") {
-        Deco::Kr
-    } else if is_word(name, b"fermata") {
-        Deco::Kf
-    } else if is_accent(name) {
-        Deco::Ka
-    } else if is_word(name, b"lowermordent") || is_word(name, b"mordent") {
-        Deco::Km
-    } else if is_word(name, b"coda") {
-        Deco::Kc
-    } else if is_word(name, b"uppermordent") || is_word(name, b"pralltriller") {
-        Deco::Kp
-    } else if is_word(name, b"segno") {
-        Deco::Kg
-    } else if is_word(name, b"trill") {
-        Deco::Kt
-    } else if is_word(name, b"upbow") {
-        Deco::Ku
-    } else if is_word(name, b"downbow") {
-        Deco::Kd
-    } else if is_word(name, b"tenuto") {
-        Deco::Kn
-    } else {
-        return deco_of_text(alloc, name);
-    })
+    match with_name(name, &drawn_decos()) {
+        Some(deco) => deco.copy(alloc),
+        None => deco_of_text(alloc, name),
+    }
 }
 
 #[tactic(auto, unfolding(crate::specs::Decorations::deco_of_text))]
@@ -71,13 +167,6 @@ fn deco_of_text(alloc: Global, name: &[u8]) -> Result<Deco, Memory>
     } else {
         Deco::Quiet(text)
     })
-}
-
-#[tactic(auto, unfolding(crate::specs::Decorations::is_accent))]
-fn is_accent(name: &[u8]) -> bool
-    ensures { result ≡ is_accent name.now }
-{
-    is_word(name, b"accent") || is_word(name, b"emphasis") || is_word(name, b">")
 }
 
 #[tactic(auto, unfolding(crate::specs::Decorations::is_dynamic))]

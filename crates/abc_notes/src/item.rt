@@ -1,10 +1,11 @@
 ghost use Rattle.std.specs.Prelude.{◌≡◌, ◌≤◌, ◌^◌, length, option_map, Some, IfSome};
 ghost use Rattle.std.specs.List.{prefix_len};
-ghost use Rattle.abc_notes.specs.Decorations.{is_deco_letter, is_name_byte};
+ghost use Rattle.abc_notes.specs.Decorations.{is_name_byte};
 ghost use Rattle.abc_notes.specs.Items.{is_passed_inside, is_note_byte, item_class, name_at, closed_name, inner_at};
 ghost use Rattle.abc_notes.specs.Items.{sense, sense_of, sensed, dot_inside, named_or};
 ghost use Rattle.abc_notes.specs.Runs.{span_all, is_note_letter};
 
+use crate::decoration::is_deco_letter;
 use crate::note::note_at;
 use crate::part::{InnerPiece, ItemClass};
 use mus_units::bytes::is_blank;
@@ -128,22 +129,6 @@ fn is_note_letter(byte: u8) -> bool
     ensures { result ≡ is_note_letter byte }
 {
     matches!(byte, b'A'..=b'G' | b'a'..=b'g')
-}
-
-/// Returns whether this is a letter that names a decoration.
-pub fn is_deco_letter(byte: u8) -> bool
-    ensures { result ≡ is_deco_letter byte }
-{
-    byte == b'~'
-        || byte == b'H'
-        || byte == b'L'
-        || byte == b'M'
-        || byte == b'O'
-        || byte == b'P'
-        || byte == b'S'
-        || byte == b'T'
-        || byte == b'u'
-        || byte == b'v'
 }
 
 fn is_passed_inside(byte: u8) -> bool

@@ -22,7 +22,7 @@ use Rattle.abc_notes.specs.Runs.{maybe}
 use Rattle.abc_notes.specs.Lengths.{LengthForm, IsCount, count_of, len_of, IsWrittenLength}
 use Rattle.abc_notes.specs.Notes.{NoteForm, IsNote, head_of}
 use Rattle.abc_notes.specs.Items.{sense}
-use Rattle.abc_notes.specs.Decorations.{deco_of_letter, deco_of_name}
+use Rattle.abc_notes.specs.Decorations.{deco_of_letter, deco_of_name, deco_name}
 use Rattle.abc_notes.specs.Chords.{ChordForm, heads_of, decos_of}
 use Rattle.abc_notes.specs.Graces.{GraceForm, body_of}
 use Rattle.abc_notes.specs.Parts.{IsLongest}
@@ -40,7 +40,7 @@ use Rattle.abc_tokens.proofs.Numbers.{digit_from, digits_again, count_again, is_
 use Rattle.abc_tokens.proofs.Numbers.{head_form, head_good, head_means}
 use Rattle.abc_tokens.proofs.Bars.{plain_bar, same_bar}
 use Rattle.abc_tokens.proofs.Names.{GoodDeco, letter_good, name_good}
-use Rattle.abc_tokens.specs.Plain.{all_then, len_then, number_or_empty, deco_name, token_then, next_then, plain_text}
+use Rattle.abc_tokens.specs.Plain.{all_then, len_then, number_or_empty, token_then, next_then, plain_text}
 use Rattle.abc_tokens.specs.Again.{ReadsAs, IsReadable}
 
 -- a piece that is the plain spelling of the token and is read as itself

@@ -17,6 +17,7 @@ use Rattle.abc_notes.specs.Graces.{GracePart, single, chorded, grace_part_then, 
 use Rattle.abc_notes.specs.Graces.{is_slash_byte, IsGrace, heads_in, body_of, grace_part_at, single_read, chorded_read}
 use Rattle.abc_notes.specs.declared.part.GraceChord.{GraceChord}
 use Rattle.abc_notes.specs.declared.part.Len.{Len}
+use Rattle.abc_notes.specs.Decorations.{deco_name}
 use Rattle.abc_notes.specs.Runs.{maybe, begins, is_mark}
 use Rattle.abc_notes.specs.Lengths.{LengthForm, whole, length_then, len_of}
 use Rattle.abc_notes.specs.Notes.{NoteForm, note_then, sign_then, letter_byte, IsNote, head_of, note_at}
@@ -32,7 +33,7 @@ use Rattle.abc_notes.proofs.GraceLaws.{part_reader, at_bracket, lone_part_is, ha
 use Rattle.abc_notes.proofs.ChordLaws.{has_lone}
 use Rattle.abc_notes.proofs.CutLaws.{maybe_append, sign_append, wider}
 use Rattle.abc_pieces.specs.{declared.token.BracketOpening.BracketOpening, Forms.opening}
-use Rattle.abc_tokens.specs.Plain.{all_then, len_then, marks_of, is_small_letter, head_then, chord_head_then, deco_name}
+use Rattle.abc_tokens.specs.Plain.{all_then, len_then, marks_of, is_small_letter, head_then, chord_head_then}
 use Rattle.abc_tokens.specs.Plain.{deco_then, heads_then, grace_chord_then}
 use Rattle.abc_tokens.proofs.Numbers.{GoodLen, len_form, len_again, head_form, head_good, head_means, good_marks}
 use Rattle.abc_tokens.proofs.Names.{GoodDeco, letter_good, name_good}

@@ -1,61 +1,61 @@
 -- The plain name of a decoration is read as that decoration.
-use Rattle.std.proofs.Common.{◌≡◌, ℕ, cond, eqb, List, [], ◌∷◌, refl, sym, ap, ◌∙◌, subst, arith, inl, inr, ◌⊎◌, codes}
-use Rattle.std.proofs.lemmas.Bool.{cond_both}
+use Rattle.std.proofs.Common.{◌≡◌, ℕ, Bool, true, false, cond, List, [], ◌∷◌, refl, sym, ap, ◌∙◌, subst, arith, inl}
+use Rattle.std.proofs.Common.{inr, ◌⊎◌, Some, find, unwrap_or}
+use Rattle.std.specs.List.{list_all}
+use Rattle.std.proofs.lemmas.Bool.{and_parts, cond_both}
 use Rattle.mus_units.specs.declared.note.Deco.{Deco}
-use Rattle.mus_units.specs.declared.note.Deco.TheVariants.{Ks, Kr, Kf, Ka, Km, Kc, Kp, Kg, Kt, Ku, Kd, Kn, Below, Above}
-use Rattle.mus_units.specs.declared.note.Deco.TheVariants.{Quiet}
-use Rattle.abc_notes.specs.Decorations.{deco_of_letter, deco_of_name, deco_of_text, is_named, is_one_of, is_accent}
-use Rattle.abc_notes.specs.Decorations.{is_dynamic, is_finger}
+use Rattle.mus_units.specs.declared.note.Deco.TheVariants.{Ks, Below, Above, Quiet}
+use Rattle.abc_notes.specs.Decorations.{deco_of_letter, deco_of_name, deco_of_text, deco_name, drawn_decos, is_dynamic}
+use Rattle.abc_notes.specs.Decorations.{is_finger}
 use Rattle.abc_notes.specs.Items.{IsName}
-use Rattle.abc_tokens.specs.Plain.{deco_name}
 
 -- the name means the decoration, and may be put between exclamation marks
 pub record GoodDeco (d : Deco) : Type 0 where
   pub means : deco_of_name (deco_name d) ≡ d
   pub name : IsName (deco_name d)
 
-abbrev pub IsListed : Deco → Type 0
-IsListed (Below text) = ⊥
-IsListed (Above text) = ⊥
-IsListed (Quiet text) = ⊥
-IsListed _ = Unit {0}
+abbrev is_drawn : Deco → Bool
+is_drawn (Below text) = false
+is_drawn (Above text) = false
+is_drawn (Quiet text) = false
+is_drawn _ = true
 
-listed_means : (d : Deco) → IsListed d → deco_of_name (deco_name d) ≡ d
-unfolding deco_of_name is_accent
-listed_means (Below text) h = absurd h
-listed_means (Above text) h = absurd h
-listed_means (Quiet text) h = absurd h
-listed_means _ h = refl
+drawn_means : (d : Deco) → is_drawn d ≡ true → deco_of_name (deco_name d) ≡ d
+unfolding deco_of_name drawn_decos
+drawn_means (Below text) h = cc
+drawn_means (Above text) h = cc
+drawn_means (Quiet text) h = cc
+drawn_means _ h = refl
 
-listed_name : (d : Deco) → IsListed d → IsName (deco_name d)
-listed_name (Below text) h = absurd h
-listed_name (Above text) h = absurd h
-listed_name (Quiet text) h = absurd h
-listed_name _ h = record { some = omega arith; bytes = refl }
+drawn_name : (d : Deco) → is_drawn d ≡ true → IsName (deco_name d)
+drawn_name (Below text) h = cc
+drawn_name (Above text) h = cc
+drawn_name (Quiet text) h = cc
+drawn_name _ h = record { some = omega arith; bytes = refl }
 
-listed_good : (d : Deco) → IsListed d → GoodDeco d
-listed_good d h = record { means = listed_means d h; name = listed_name d h }
+drawn_good : (d : Deco) → is_drawn d ≡ true → GoodDeco d
+drawn_good d h = record { means = drawn_means d h; name = drawn_name d h }
 
-letter_listed : (b : ℕ) → IsListed (deco_of_letter b)
-unfolding deco_of_letter
-letter_listed b =
-    cond_both (eqb b 46) Ks _ IsListed (λ e. tt) (λ e.
-    cond_both (eqb b 126) Kr _ IsListed (λ e. tt) (λ e.
-    cond_both (eqb b 72) Kf _ IsListed (λ e. tt) (λ e.
-    cond_both (eqb b 76) Ka _ IsListed (λ e. tt) (λ e.
-    cond_both (eqb b 77) Km _ IsListed (λ e. tt) (λ e.
-    cond_both (eqb b 79) Kc _ IsListed (λ e. tt) (λ e.
-    cond_both (eqb b 80) Kp _ IsListed (λ e. tt) (λ e.
-    cond_both (eqb b 83) Kg _ IsListed (λ e. tt) (λ e.
-    cond_both (eqb b 84) Kt _ IsListed (λ e. tt) (λ e.
-    cond_both (eqb b 117) Ku Kd IsListed (λ e. tt) (λ e. tt))))))))))
+all_drawn : list_all is_drawn drawn_decos ≡ true
+unfolding drawn_decos
+all_drawn = refl
+
+-- what holds of those that are drawn and of another decoration holds of the first that passes a test, or else that one
+found_or : (P : Deco → Type 0) (p : Deco → Bool) (ds : List Deco) (other : Deco)
+    → ((d : Deco) → is_drawn d ≡ true → P d) → list_all is_drawn ds ≡ true → P other → P (unwrap_or (find p ds) other)
+found_or P p [] other drawn all last = last
+found_or P p (d ∷ ds) other drawn all last =
+    let parts = and_parts (is_drawn d) (list_all is_drawn ds) all in
+    cond_both (p d) (Some d) (find p ds) (λ o. P (unwrap_or o other)) (λ e. drawn d parts.0)
+    (λ e. found_or P p ds other drawn parts.1 last)
 
 pub letter_good : (b : ℕ) → GoodDeco (deco_of_letter b)
-letter_good b = listed_good (deco_of_letter b) (letter_listed b)
+unfolding deco_of_letter
+letter_good b = found_or GoodDeco _ drawn_decos Ks drawn_good all_drawn (drawn_good Ks refl)
 
--- a name means a listed decoration, or a decoration that keeps the name
+-- a name means a decoration that is drawn, or one that keeps the name
 abbrev Kept : List ℕ → Deco → Type 0
-Kept name d = IsListed d ⊎ (deco_name d ≡ name)
+Kept name d = (is_drawn d ≡ true) ⊎ (deco_name d ≡ name)
 
 text_kept : (name : List ℕ) → Kept name (deco_of_text name)
 unfolding deco_of_text
@@ -67,22 +67,10 @@ text_kept name =
 name_kept : (name : List ℕ) → Kept name (deco_of_name name)
 unfolding deco_of_name
 name_kept name =
-    cond_both (is_named name (codes "staccato")) Ks _ (Kept name) (λ e. inl tt) (λ e.
-    cond_both (is_named name (codes "roll")) Kr _ (Kept name) (λ e. inl tt) (λ e.
-    cond_both (is_named name (codes "fermata")) Kf _ (Kept name) (λ e. inl tt) (λ e.
-    cond_both (is_accent name) Ka _ (Kept name) (λ e. inl tt) (λ e.
-    cond_both (is_one_of (codes "lowermordent" ∷ codes "mordent" ∷ []) name) Km _ (Kept name) (λ e. inl tt) (λ e.
-    cond_both (is_named name (codes "coda")) Kc _ (Kept name) (λ e. inl tt) (λ e.
-    cond_both (is_one_of (codes "uppermordent" ∷ codes "pralltriller" ∷ []) name) Kp _ (Kept name) (λ e. inl tt) (λ e.
-    cond_both (is_named name (codes "segno")) Kg _ (Kept name) (λ e. inl tt) (λ e.
-    cond_both (is_named name (codes "trill")) Kt _ (Kept name) (λ e. inl tt) (λ e.
-    cond_both (is_named name (codes "upbow")) Ku _ (Kept name) (λ e. inl tt) (λ e.
-    cond_both (is_named name (codes "downbow")) Kd _ (Kept name) (λ e. inl tt) (λ e.
-    cond_both (is_named name (codes "tenuto")) Kn _ (Kept name) (λ e. inl tt) (λ e.
-    text_kept name))))))))))))
+    found_or (Kept name) _ drawn_decos (deco_of_text name) (λ d h. inl h) all_drawn (text_kept name)
 
 kept_good : (name : List ℕ) (d : Deco) → d ≡ deco_of_name name → IsName name → Kept name d → GoodDeco d
-kept_good name d is good (inl listed) = listed_good d listed
+kept_good name d is good (inl drawn) = drawn_good d drawn
 kept_good name d is good (inr same) =
     record { means = ap deco_of_name same ∙ sym is; name = subst IsName (sym same) good }
 

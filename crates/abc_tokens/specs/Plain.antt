@@ -1,19 +1,18 @@
 -- The one plain spelling of each token. A length is its two numbers with a slash between. An octave is written with
 -- commas only or primes only. A space is one space, and a line break is a dollar sign. An ending is an opening
--- bracket and its text. A decoration is its first name between exclamation marks. A tuplet leaves a missing number
+-- bracket and its text. A decoration is its plain name between exclamation marks. A tuplet leaves a missing number
 -- empty. A bar has as few colons and bar signs as its features allow. Each spelling is written before what follows
 -- it.
 use Prim.Native.Char.{code}
 use Rattle.std.specs.Prelude.{◌≡◌, ℕ, ℤ, pos, negsuc, ◌+◌, ◌-◌, List, [], ◌∷◌, ◌++◌, Bool, false, not, ◌==◌, ◌&&◌}
-use Rattle.std.specs.Prelude.{nat_le, if◌then◌else◌, replicate, codes}
+use Rattle.std.specs.Prelude.{nat_le, if◌then◌else◌, replicate}
 use Rattle.std.specs.Fmt.{decimal}
 use Rattle.mus_units.specs.declared.note.Bar.{Bar}
 use Rattle.mus_units.specs.declared.note.Deco.{Deco}
-use Rattle.mus_units.specs.declared.note.Deco.TheVariants.{Ks, Kr, Kf, Ka, Km, Kc, Kp, Kg, Kt, Ku, Kd, Kn, Below, Above}
-use Rattle.mus_units.specs.declared.note.Deco.TheVariants.{Quiet}
 use Rattle.mus_units.specs.declared.note.Head.{Head}
 use Rattle.abc_notes.specs.declared.part.GraceChord.{GraceChord}
 use Rattle.abc_notes.specs.declared.part.Len.{Len}
+use Rattle.abc_notes.specs.Decorations.{deco_name}
 use Rattle.abc_notes.specs.Runs.{copies, maybe}
 use Rattle.abc_notes.specs.Notes.{sign_then, letter_byte}
 use Rattle.abc_pieces.specs.{declared.token.Token.Token, Forms.arrow, Forms.rest_byte, Forms.measures_byte}
@@ -46,24 +45,7 @@ head_then head x = sign_then head.sign (pitch_then head x)
 abbrev pub chord_head_then : Head × Len → List ℕ → List ℕ
 chord_head_then h x = head_then h.0 (len_then h.1 (maybe h.0.tied (code "-") x))
 
--- the first name of a decoration that has a glyph; a text's own name
-abbrev pub deco_name : Deco → List ℕ
-deco_name Ks = codes "staccato"
-deco_name Kr = codes "roll"
-deco_name Kf = codes "fermata"
-deco_name Ka = codes "accent"
-deco_name Km = codes "lowermordent"
-deco_name Kc = codes "coda"
-deco_name Kp = codes "uppermordent"
-deco_name Kg = codes "segno"
-deco_name Kt = codes "trill"
-deco_name Ku = codes "upbow"
-deco_name Kd = codes "downbow"
-deco_name Kn = codes "tenuto"
-deco_name (Below text) = text
-deco_name (Above text) = text
-deco_name (Quiet text) = text
-
+-- a decoration is its plain name between exclamation marks; a text has its own name
 abbrev pub deco_then : Deco → List ℕ → List ℕ
 deco_then deco x = code "!" ∷ (deco_name deco ++ (code "!" ∷ x))
 

@@ -1,38 +1,16 @@
 ghost use Rattle.std.specs.Prelude.{◌≡◌, OnOk};
 ghost use Rattle.abc_pieces.specs.declared.token.Token.TheVariants.{Chord, Grace, Tuplet};
-ghost use Rattle.abc_tokens.specs.Plain.{PutsBytes, all_then, deco_name, deco_then, head_then, chord_head_then};
+ghost use Rattle.abc_tokens.specs.Plain.{PutsBytes, all_then, deco_then, head_then, chord_head_then};
 ghost use Rattle.abc_tokens.specs.Plain.{heads_then, grace_chord_then, colon_then, token_then};
 
 use crate::bar::put_if;
 use crate::note::{put_head, put_len, put_number_or_nothing};
 use abc_music::{GraceChord, Len, WrittenChord};
+use abc_notes::decoration::deco_name;
 use eng_lines::put_number;
 use mus_units::{Deco, Head, Memory, Text};
 
-/// Returns the first name of a decoration that has a glyph, or a text's own name.
-fn deco_name(deco: &Deco) -> &[u8]
-    ensures { result.now ≡ deco_name deco.now }
-{
-    match deco {
-        Deco::Ks => b"staccato",
-        Deco::Kr => b"roll",
-        Deco::Kf => b"fermata",
-        Deco::Ka => b"accent",
-        Deco::Km => b"lowermordent",
-        Deco::Kc => b"coda",
-        Deco::Kp => b"uppermordent",
-        Deco::Kg => b"segno",
-        Deco::Kt => b"trill",
-        Deco::Ku => b"upbow",
-        Deco::Kd => b"downbow",
-        Deco::Kn => b"tenuto",
-        Deco::Below(text) => text.as_slice(),
-        Deco::Above(text) => text.as_slice(),
-        Deco::Quiet(text) => text.as_slice(),
-    }
-}
-
-/// Adds a decoration: its name between exclamation marks.
+/// Adds a decoration: its plain name between exclamation marks.
 pub fn put_deco(out: &mut Text, deco: &Deco) -> Result<(), Memory>
     ensures { OnOk result (PutsBytes out.old out.new (deco_then deco.now)) }
 {
