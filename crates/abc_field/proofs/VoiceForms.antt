@@ -1,22 +1,22 @@
 -- A text reads as a clef, or as a voice, exactly when a good form of it spells the text.
 use Rattle.std.proofs.Common.{◌≡◌, refl, sym, ap, ◌∙◌, ℕ, ◌-◌, List, [], ◌∷◌, ◌++◌, Bool, true, false, length, take}
-use Rattle.std.proofs.Common.{drop, map, not, nat_eq, nat_le}
+use Rattle.std.proofs.Common.{drop, map, not, nat_eq, nat_le, find}
 use Rattle.std.proofs.Common.{◌||◌, Some, None, codes, cond, take-append-drop}
 use Rattle.std.proofs.lemmas.Bool.{and_parts, cond_both, leb-true, le-leb}
 use Rattle.std.proofs.lemmas.Option.{same_Some}
 use Rattle.std.proofs.lemmas.Slice.Eq.{bytes_eq-Decides}
 use Rattle.std.specs.Prelude.{⊤}
 use Rattle.std.specs.List.{ends_with}
-use Rattle.std.specs.Option.{option_map}
-use Rattle.mus_units.specs.declared.{pitch.Clef.Clef, note.Wish.Wish}
-use Rattle.abc_field.specs.VoiceSpelling.{ClefForm, plain_clef, above_clef, below_clef, clef_name, clef_spelled}
+use Rattle.std.specs.{Option.option_map, Str.bytes_eq}
+use Rattle.mus_units.specs.{declared.{pitch.Clef.Clef, note.Wish.Wish}, Pitch.{clef_row, clef_named, all_clefs}}
+use Rattle.abc_field.specs.VoiceSpelling.{ClefForm, plain_clef, above_clef, below_clef, clef_spelled}
 use Rattle.abc_field.specs.VoiceSpelling.{clef_meant, wish_name, SaysVoice}
 use Rattle.abc_field.specs.VoiceSpelling.{PropertyForm, clef_property, name_property, stem_property, other_property}
 use Rattle.abc_field.specs.VoiceSpelling.{property_spelled}
 use Rattle.abc_field.specs.VoiceSpelling.{IsGoodProperty, AreGoodProperties, property_meant}
 use Rattle.abc_field.specs.declared.voice.VoiceDef.{VoiceDef}
 use Rattle.abc_field.specs.declared.voice.VoiceWord.{VoiceWord}
-use Rattle.abc_field.specs.Keys.{named_clef, clef_of}
+use Rattle.abc_field.specs.Keys.{clef_of}
 use Rattle.abc_field.specs.Words.{next_word, properties_of, ends_quoted, after_prefix}
 use Rattle.abc_field.specs.WordSpelling.{IsFirstWord}
 use Rattle.abc_field.specs.Voices.{wish_of, by_stem, by_clef, voice_word, voice_words, voice_def, is_good_voice}
@@ -35,14 +35,18 @@ clef-read (below_clef Clef.Treble) = refl
 clef-read _ = refl
 
 abbrev IsName : List ℕ → Type 0
-IsName w = HasForm clef_name (λ _. ⊤) w
+IsName w = HasForm (λ clef. (clef_row clef).name) (λ _. ⊤) w
 
-named-takes : (w : List ℕ) → Where (IsName w) (named_clef w)
-named-takes w =
-    word_case (Where (IsName w)) w (codes "treble") _ _ (formed Clef.Treble tt)
-    (λ _. word_case (Where (IsName w)) w (codes "bass") _ _ (formed Clef.Bass tt)
-    (λ _. word_case (Where (IsName w)) w (codes "alto") _ _ (formed Clef.Alto tt)
-    (λ _. word_case (Where (IsName w)) w (codes "tenor") _ _ (formed Clef.Tenor tt) (λ _. tt))))
+found-takes : (w : List ℕ) (clefs : List Clef)
+    → Where (IsName w) (find (λ clef. bytes_eq (clef_row clef).name w) clefs)
+found-takes w [] = tt
+found-takes w (clef ∷ clefs) =
+    cond_both (bytes_eq (clef_row clef).name w) (Some clef) _ (Where (IsName w))
+    (λ e. formed clef tt (sym ((bytes_eq-Decides (clef_row clef).name w).0 e)))
+    (λ _. found-takes w clefs)
+
+named-takes : (w : List ℕ) → Where (IsName w) (clef_named w)
+named-takes w = found-takes w all_clefs
 
 -- a text that ends with these two bytes is what precedes them, followed by them
 ends-cut : (w end : List ℕ) → ends_with nat_eq w end ≡ true → w ≡ take (length w - length end) w ++ end
@@ -58,15 +62,15 @@ unfolding clef_of
 clef-takes w = by_end _ _ refl refl
   where
     by_end : (above below : Bool) → ends_with nat_eq w (codes "+8") ≡ above → ends_with nat_eq w (codes "-8") ≡ below
-        → Where (IsClef w) (named_clef (cond (above || below) (take (length w - 2) w) w))
+        → Where (IsClef w) (clef_named (cond (above || below) (take (length w - 2) w) w))
     by_end true below e f =
-        where_then (named_clef (take (length w - 2) w)) (named-takes (take (length w - 2) w))
+        where_then (clef_named (take (length w - 2) w)) (named-takes (take (length w - 2) w))
         (λ name. formed (above_clef name.form) tt (ends-cut w (codes "+8") e ∙ ap (λ t. t ++ codes "+8") name.spelled))
     by_end false true e f =
-        where_then (named_clef (take (length w - 2) w)) (named-takes (take (length w - 2) w))
+        where_then (clef_named (take (length w - 2) w)) (named-takes (take (length w - 2) w))
         (λ name. formed (below_clef name.form) tt (ends-cut w (codes "-8") f ∙ ap (λ t. t ++ codes "-8") name.spelled))
     by_end false false e f =
-        where_then (named_clef w) (named-takes w) (λ name. formed (plain_clef name.form) tt name.spelled)
+        where_then (clef_named w) (named-takes w) (λ name. formed (plain_clef name.form) tt name.spelled)
 
 -- if no form of a clef spells it, none is read
 pub no_clef_read : (w : List ℕ) → ((form : ClefForm) → w ≡ clef_spelled form → ⊥) → clef_of w ≡ None

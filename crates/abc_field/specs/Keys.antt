@@ -10,7 +10,7 @@ use Rattle.mus_units.specs.declared.pitch.Letter.{Letter}
 use Rattle.mus_units.specs.declared.pitch.Alter.{Alter}
 use Rattle.mus_units.specs.declared.pitch.Clef.{Clef}
 use Rattle.mus_units.specs.declared.key.Sign.{Sign}
-use Rattle.mus_units.specs.Good.{IsGoodKey}
+use Rattle.mus_units.specs.{Good.IsGoodKey, Pitch.clef_named}
 use Rattle.mus_units.specs.declared.key.Key.{Key}
 use Rattle.mus_pitch.specs.{declared.circle.Mode.Mode, Circle.signature_of, Circle.signs_of, Signs.laid}
 use Rattle.abc_field.specs.declared.key.Tonic.{Tonic}
@@ -52,14 +52,6 @@ sign_of w =
     (option_or (signed_letter Alter.Flat (after_prefix (codes "_") w))
     (signed_letter Alter.Natural (after_prefix (codes "=") w)))))
 
--- the clef of that name
-abbrev pub named_clef : List ℕ → Option Clef
-named_clef w =
-    if bytes_eq w (codes "treble") then Some Clef.Treble
-    else (if bytes_eq w (codes "bass") then Some Clef.Bass
-    else (if bytes_eq w (codes "alto") then Some Clef.Alto
-    else (if bytes_eq w (codes "tenor") then Some Clef.Tenor else None)))
-
 -- an octave above or below after a clef's name is ignored
 abbrev pub has_octave : List ℕ → Bool
 has_octave w = ends_with nat_eq w (codes "+8") || ends_with nat_eq w (codes "-8")
@@ -68,7 +60,7 @@ abbrev pub without_octave : List ℕ → List ℕ
 without_octave w = if has_octave w then take (length w - 2) w else w
 
 unfoldable pub clef_of : List ℕ → Option Clef
-clef_of w = named_clef (without_octave w)
+clef_of w = clef_named (without_octave w)
 
 -- Words after the tonic. `exp` empties what was listed so far, an accidental word adds an accidental, a clef is named
 -- with or without `clef=`, and other words with an equals sign are ignored.

@@ -1,6 +1,6 @@
 -- How clefs and voices are written: each form with its spelling, when it is good, and what it means.
 use Rattle.std.specs.Prelude.{◌≡◌, ℕ, ◌≤◌, List, [], ◌∷◌, ◌++◌, false, IsTrue, ⊤, not, length, map, codes}
-use Rattle.mus_units.specs.{declared.pitch.Clef.Clef, declared.note.Wish.Wish}
+use Rattle.mus_units.specs.{declared.pitch.Clef.Clef, declared.note.Wish.Wish, Pitch.clef_row}
 use Rattle.abc_field.specs.declared.voice.VoiceDef.{VoiceDef}
 use Rattle.abc_field.specs.declared.voice.VoiceWord.{VoiceWord}
 use Rattle.abc_field.specs.Voices.{voice_def}
@@ -13,16 +13,10 @@ pub data ClefForm : Type 0 where
   above_clef : (clef : Clef) → ClefForm
   below_clef : (clef : Clef) → ClefForm
 
-abbrev pub clef_name : Clef → List ℕ
-clef_name Clef.Treble = codes "treble"
-clef_name Clef.Bass = codes "bass"
-clef_name Clef.Alto = codes "alto"
-clef_name Clef.Tenor = codes "tenor"
-
 abbrev pub clef_spelled : ClefForm → List ℕ
-clef_spelled (plain_clef clef) = clef_name clef
-clef_spelled (above_clef clef) = clef_name clef ++ codes "+8"
-clef_spelled (below_clef clef) = clef_name clef ++ codes "-8"
+clef_spelled (plain_clef clef) = (clef_row clef).name
+clef_spelled (above_clef clef) = (clef_row clef).name ++ codes "+8"
+clef_spelled (below_clef clef) = (clef_row clef).name ++ codes "-8"
 
 abbrev pub clef_meant : ClefForm → Clef
 clef_meant (plain_clef clef) = clef

@@ -6,7 +6,7 @@ ghost use Rattle.abc_field.specs.declared.key.KeyStart.TheVariants as starts;
 ghost use Rattle.mus_units.specs.Good.{IsGoodKey};
 ghost use Rattle.abc_field.specs.Last.{last_of};
 ghost use Rattle.abc_field.specs.Words.{words_of, after_prefix};
-ghost use Rattle.abc_field.specs.Keys.{natural_letter, letter_of, letter_alone, signed_letter, sign_of, named_clef};
+ghost use Rattle.abc_field.specs.Keys.{natural_letter, letter_of, letter_alone, signed_letter, sign_of};
 ghost use Rattle.abc_field.specs.Keys.{has_octave, without_octave, clef_of, by_name, by_clef, by_sign, key_word};
 ghost use Rattle.abc_field.specs.Keys.{key_words, major_like, minor_like, mode_named, mode_by_three, mode_of};
 ghost use Rattle.abc_field.specs.Keys.{key_start, mode_on, altered, tonic_of, without_mode, with_next_mode, by_mode};
@@ -16,7 +16,7 @@ ghost use Rattle.abc_field.specs.Keys.{IsGoodKeyText};
 
 use crate::words::{after_prefix, is_same, next_word};
 use mus_pitch::{Mode, key_of, signature, with_signs};
-use mus_units::{Alter, Clef, Key, Letter, Memory, Row, Sign};
+use mus_units::{Alter, Clef, Key, Letter, Memory, Row, Sign, clef_named};
 use std::alloc::Global;
 
 /// The meaning of a key's text. If the text has a tonic, `none`, `HP`, `Hp` or `exp`, `key` is the whole key with the
@@ -284,23 +284,7 @@ fn has_equals(word: &[u8]) -> bool
 pub fn clef_of(name: &[u8]) -> Option<Clef>
     ensures { result ≡ clef_of name.now }
 {
-    named_clef(without_octave(name))
-}
-
-fn named_clef(name: &[u8]) -> Option<Clef>
-    ensures { result ≡ named_clef name.now }
-{
-    if is_same(name, b"treble") {
-        Some(Clef::Treble)
-    } else if is_same(name, b"bass") {
-        Some(Clef::Bass)
-    } else if is_same(name, b"alto") {
-        Some(Clef::Alto)
-    } else if is_same(name, b"tenor") {
-        Some(Clef::Tenor)
-    } else {
-        None
-    }
+    clef_named(without_octave(name))
 }
 
 fn without_octave(name: &[u8]) -> &[u8]
