@@ -1,6 +1,6 @@
 use crate::error::{CaseError, Mistake};
 use crate::report::Report;
-use mus_units::{Alter, Clef, Frac, Letter, Meter, Sign, Spread, Wish};
+use mus_units::{Alter, Clef, Frac, Letter, Meter, Sign, Spread, Wish, clef_row};
 
 /// Returns whether a case gives the word that its call knows; it may give no other.
 pub fn is_given(word: &str, known: &str) -> Result<bool, CaseError> {
@@ -80,23 +80,13 @@ pub fn put_signs(out: &mut Report, name: &[u8], signs: &[Sign]) -> Result<(), Ca
 
 /// Adds `clef` and the clef's name.
 pub fn put_clef(out: &mut Report, clef: Clef) -> Result<(), CaseError> {
-    out.next(match clef {
-        Clef::Treble => b"clef treble",
-        Clef::Bass => b"clef bass",
-        Clef::Alto => b"clef alto",
-        Clef::Tenor => b"clef tenor",
-    })
+    out.next(b"clef ")?;
+    out.append(clef_row(clef).name)
 }
 
 /// Returns the clef of a name.
 pub fn clef_named(name: &str) -> Result<Clef, CaseError> {
-    match name {
-        "treble" => Ok(Clef::Treble),
-        "bass" => Ok(Clef::Bass),
-        "alto" => Ok(Clef::Alto),
-        "tenor" => Ok(Clef::Tenor),
-        _ => Err(CaseError::Wrong(Mistake::UnknownClef)),
-    }
+    mus_units::clef_named(name.as_bytes()).ok_or(CaseError::Wrong(Mistake::UnknownClef))
 }
 
 /// Adds `meter` and the meter.

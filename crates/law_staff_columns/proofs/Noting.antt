@@ -28,7 +28,8 @@ use Rattle.mus_ink.specs.Decos.{after_deco, body_marks, deco_marks, note_marks}
 use Rattle.mus_ink.specs.Distances.{entry_step, grace_sign_side, signature_side}
 use Rattle.mus_ink.specs.Drawing.{back, cut_dy, steps_dy}
 use Rattle.mus_ink.specs.Graces.{at_end, grace_body, grace_head_ink, grace_marks}
-use Rattle.mus_ink.specs.Kinds.{clef_row, deco_glyph, head_glyph, sign_glyph}
+use Rattle.mus_units.specs.Pitch.{clef_row}
+use Rattle.mus_ink.specs.Kinds.{deco_glyph, head_glyph, sign_glyph}
 use Rattle.mus_ink.specs.Notes.{dot_marks, heads_marks, ledger_marks, note_heads, sign_marks}
 use Rattle.mus_ink.specs.Rests.{rest_dots, rest_marks, short_rests}
 use Rattle.mus_ink.specs.Signatures.{entry_mark, entry_marks, meter_if, meter_marks}

@@ -13,7 +13,7 @@ use Rattle.mus_units.specs.declared.pitch.Clef.{Clef}
 use Rattle.mus_units.specs.declared.pitch.Pitch.{Pitch}
 use Rattle.mus_pitch.specs.Alteration.{key_sign}
 use Rattle.mus_ink.specs.Drawing.{steps_dy}
-use Rattle.mus_ink.specs.Kinds.{clef_row}
+use Rattle.mus_units.specs.Pitch.{clef_row}
 use Rattle.mus_ink.specs.Signatures.{entry_dy}
 use Rattle.mus_drawn.specs.declared.sounds.AlteredHead as score
 use Rattle.ps_heard.specs.declared.column.Heard as page

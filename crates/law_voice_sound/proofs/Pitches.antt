@@ -9,7 +9,7 @@ use Rattle.std.specs.Int.RustNames.{unsigned_abs}
 use Rattle.std.specs.List.{slice_index_or}
 use Rattle.std.specs.Ordering.{int_eq}
 use Rattle.mus_units.specs.Good.{same_letter}
-use Rattle.mus_units.specs.Pitch.{bottom_of, height_of, letter_number}
+use Rattle.mus_units.specs.Pitch.{clef_row, height_of, letter_number, staff_step}
 use Rattle.mus_units.specs.declared.key.Sign.{Sign}
 use Rattle.mus_units.specs.declared.note.Head.{Head}
 use Rattle.mus_units.specs.declared.pitch.Alter.{Alter}
@@ -28,7 +28,7 @@ use Rattle.ps_heard.specs.Roles.{pitch_at}
 use Rattle.law_voice_sound.specs.Noted.{entry_notes}
 
 -- ---- heads
-div_is : (w z : ℤ) → w ≡ pos 250 *ℤ z → int_div_euclid w (pos 250) ≡ z
+div_is : (w z : ℤ) → w ≡ staff_step *ℤ z → int_div_euclid w (staff_step) ≡ z
 div_is (pos a) z e = omega (arith, ints)
 div_is (negsuc a) z e = omega (arith, ints)
 
@@ -58,7 +58,7 @@ pitch_is w p e =
       div_seven w p.octave (letter_number p.letter) few e,
     ) refl
 
-pub dy_is : (c : Clef) (h : Head) → IsInReach c h → dy_of c h ≡ pos 250 *ℤ height_of h.pitch c
+pub dy_is : (c : Clef) (h : Head) → IsInReach c h → dy_of c h ≡ staff_step *ℤ height_of h.pitch c
 unfolding dy_of steps_dy cut_dy
 dy_is c h near = let low = near.0 in let high = near.1 in omega (arith, ints, clamps)
 
@@ -67,7 +67,7 @@ pub pitch_read : (c : Clef) (h : Head) → IsInReach c h → pitch_at c (dy_of c
 unfolding pitch_at
 pitch_read c h near =
     rw (div_is (dy_of c h) (height_of h.pitch c) (dy_is c h near))
-    (pitch_is (height_of h.pitch c +ℤ pos (bottom_of c)) h.pitch (omega (arith, ints)))
+    (pitch_is (height_of h.pitch c +ℤ pos (clef_row c).bottom) h.pitch (omega (arith, ints)))
 
 pub pitch_flip : (h g : Head) → has_pitch h.pitch g ≡ has_pitch g.pitch h
 pitch_flip h g = grind (arith, nat_tests, ints)

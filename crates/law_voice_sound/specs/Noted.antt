@@ -6,7 +6,8 @@ use Rattle.mus_units.specs.declared.note.Bar.{Bar}
 use Rattle.mus_units.specs.declared.note.Head.{Head}
 use Rattle.mus_units.specs.declared.pitch.Alter.{Alter}
 use Rattle.mus_units.specs.declared.pitch.Clef.{Clef}
-use Rattle.mus_ink.specs.{Bars.bar_glyph, Drawing.steps_dy, Kinds.clef_row, Notes.dy_of, Signatures.entry_dy}
+use Rattle.mus_units.specs.Pitch.{clef_row}
+use Rattle.mus_ink.specs.{Bars.bar_glyph, Drawing.steps_dy, Notes.dy_of, Signatures.entry_dy}
 use Rattle.ps_heard.specs.declared.column.HeardGlyph.{HeardGlyph}
 use Rattle.ps_heard.specs.declared.column.Role.{Role}
 use Rattle.ps_heard.specs.Columns.{noted}

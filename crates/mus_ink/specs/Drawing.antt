@@ -2,6 +2,7 @@
 -- another. The positions of the columns are not determined here.
 use Rattle.std.specs.Prelude.{ℕ, ℤ, pos, ◌*ℤ◌, ◌-ℤ◌, List}
 use Rattle.std.specs.Int.{int_min, int_max}
+use Rattle.mus_units.specs.Pitch.{staff_step}
 use Rattle.mus_units.specs.declared.glyph.Glyph.{Glyph}
 use Rattle.mus_units.specs.declared.glyph.Way.{Way}
 use Rattle.mus_units.specs.declared.glyph.Size.{Size}
@@ -11,7 +12,6 @@ use Rattle.mus_laid.specs.declared.drawn.LaneInk.{LaneInk}
 use Rattle.mus_laid.specs.declared.drawn.Bridge.{Bridge}
 use Rattle.mus_laid.specs.declared.drawn.BridgeShape.{BridgeShape}
 use Rattle.mus_laid.specs.declared.laid.Lane.{Lane}
-use Rattle.mus_stems.specs.Distances.{staff_step}
 use Rattle.mus_ink.specs.Distances.{greatest_height}
 
 -- to the left of a column, or down

@@ -1,35 +1,10 @@
--- Which glyph draws what, and where: a row for each clef, accidental, base and decoration.
-use Rattle.std.specs.Prelude.{ℤ, pos, negsuc, Bool, true, false, Option, Some, None}
+-- Which glyph draws what, and where: a row for each accidental, base and decoration.
+use Rattle.std.specs.Prelude.{ℤ, pos, Bool, true, false, Option, Some, None}
 use Rattle.mus_units.specs.declared.glyph.Glyph.{Glyph}
 use Rattle.mus_units.specs.declared.pitch.Alter.{Alter}
-use Rattle.mus_units.specs.declared.pitch.Clef.{Clef}
 use Rattle.mus_units.specs.declared.note.Deco.{Deco}
 use Rattle.mus_units.specs.declared.value.Base.{Base}
-use Rattle.mus_ink.specs.declared.kinds.Entries.{Entries}
-use Rattle.mus_ink.specs.declared.kinds.ClefRow.{ClefRow}
 use Rattle.mus_ink.specs.declared.kinds.RestRow.{RestRow}
-
--- a clef: its glyph, the line that it names, and the heights of sharps and of flats of a signature, those of
--- F, C, G, D, A, E and B; all heights in steps above the bottom line
-abbrev pub entries_at : ℤ → ℤ → ℤ → ℤ → ℤ → ℤ → ℤ → Entries
-entries_at f c g d a e b = record { f = f; c = c; g = g; d = d; a = a; e = e; b = b }
-
-abbrev pub clef_by : Glyph → ℤ → Entries → Entries → ClefRow
-clef_by glyph line sharps flats = record { glyph = glyph; line = line; sharps = sharps; flats = flats }
-
-abbrev pub clef_row : Clef → ClefRow
-clef_row Clef.Treble = clef_by Glyph.Cg (pos 2)
-    (entries_at (pos 8) (pos 5) (pos 9) (pos 6) (pos 3) (pos 7) (pos 4))
-    (entries_at (pos 1) (pos 5) (pos 2) (pos 6) (pos 3) (pos 7) (pos 4))
-clef_row Clef.Bass = clef_by Glyph.Cf (pos 6)
-    (entries_at (pos 6) (pos 3) (pos 7) (pos 4) (pos 1) (pos 5) (pos 2))
-    (entries_at (negsuc 0) (pos 3) (pos 0) (pos 4) (pos 1) (pos 5) (pos 2))
-clef_row Clef.Alto = clef_by Glyph.Cc (pos 4)
-    (entries_at (pos 7) (pos 4) (pos 8) (pos 5) (pos 2) (pos 6) (pos 3))
-    (entries_at (pos 0) (pos 4) (pos 1) (pos 5) (pos 2) (pos 6) (pos 3))
-clef_row Clef.Tenor = clef_by Glyph.Cc (pos 6)
-    (entries_at (pos 2) (pos 6) (pos 3) (pos 7) (pos 4) (pos 8) (pos 5))
-    (entries_at (pos 2) (pos 6) (pos 3) (pos 7) (pos 4) (pos 8) (pos 5))
 
 abbrev pub sign_glyph : Alter → Glyph
 sign_glyph Alter.Flat2 = Glyph.Ag

@@ -3,14 +3,13 @@ use Rattle.std.specs.Prelude.{ℕ, ℤ, pos, ◌+◌, ◌*◌, Bool, true, false
 use Rattle.mus_units.specs.declared.pitch.Letter.{Letter}
 use Rattle.mus_units.specs.declared.pitch.Alter.{Alter}
 use Rattle.mus_units.specs.declared.pitch.Clef.{Clef}
+use Rattle.mus_units.specs.{declared.pitch.Entries.Entries, Pitch.ClefRow, Pitch.clef_row}
 use Rattle.mus_units.specs.declared.key.Sign.{Sign}
 use Rattle.mus_units.specs.declared.key.Meter.{Meter}
 use Rattle.mus_laid.specs.declared.drawn.LaneInk.{LaneInk}
-use Rattle.mus_ink.specs.declared.kinds.ClefRow.{ClefRow}
-use Rattle.mus_ink.specs.declared.kinds.Entries.{Entries}
 use Rattle.mus_ink.specs.Distances.{entry_step, lower_number_line, meter_sign_line, upper_number_line}
 use Rattle.mus_ink.specs.Drawing.{big_text, glyph, steps_dy}
-use Rattle.mus_ink.specs.Kinds.{clef_row, sign_glyph}
+use Rattle.mus_ink.specs.Kinds.{sign_glyph}
 
 -- a clef is at the line that it names
 abbrev pub clef_mark : ℕ → Clef → LaneInk

@@ -1,7 +1,5 @@
 //! Distances and heights in u, with the names that the definitions give them.
 
-/// From a line of the staff to the space above it.
-pub const STEP: i64 = 250;
 /// The greatest distance of a height from the bottom line.
 pub const FURTHEST: i64 = 1_073_741_824;
 

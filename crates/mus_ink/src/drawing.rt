@@ -2,10 +2,10 @@ ghost use Rattle.std.specs.Prelude.{◌≡◌, ◌++◌, ◌∷◌, [], OnOk};
 ghost use Rattle.mus_ink.specs.Drawing.{cut_dy, steps_dy, glyph, loose_glyph, big_text, stem, beam};
 ghost use Rattle.mus_laid.specs.Ranked.{inked};
 
-use crate::distances::{FURTHEST, STEP};
+use crate::distances::FURTHEST;
 use mus_laid::{Bridge, BridgeShape, Ink, Lane, LaneInk, MarkPen};
 use mus_onsets::ColumnKey;
-use mus_units::{Glyph, Memory, Row, Size, Text, Way};
+use mus_units::{Glyph, Memory, Row, STEP, Size, Text, Way};
 
 /// Returns a height clamped to ±2^30 u.
 #[tactic(auto, unfolding(crate::specs::Drawing::cut_dy))]
@@ -20,7 +20,7 @@ pub fn cut_dy(dy: i64) -> i32
 pub fn steps_dy(steps: i32) -> i32
     ensures { result ≡ steps_dy steps }
 {
-    cut_dy(STEP * i64::from(steps))
+    cut_dy(i64::from(STEP) * i64::from(steps))
 }
 
 /// Draws a glyph in the lane of glyphs.

@@ -1,81 +1,13 @@
 ghost use Rattle.std.specs.Prelude.{◌≡◌};
-ghost use Rattle.mus_ink.specs.Kinds.{clef_row, deco_glyph, entries_at, head_glyph, rest_row, sign_glyph};
+ghost use Rattle.mus_ink.specs.Kinds.{deco_glyph, head_glyph, rest_row, sign_glyph};
 
-use mus_units::{Alter, Base, Clef, Deco, Glyph};
-
-/// The heights of the entries of a signature by their letters, in steps above the bottom line.
-#[derive(Clone, Copy, PartialEq, Eq)]
-pub struct Entries {
-    pub f: i32,
-    pub c: i32,
-    pub g: i32,
-    pub d: i32,
-    pub a: i32,
-    pub e: i32,
-    pub b: i32,
-}
-
-/// How a clef is drawn: its glyph, the height of the line that it names, in steps above the bottom line, and the
-/// heights of the sharps and flats of a signature.
-#[derive(Clone, Copy, PartialEq, Eq)]
-pub struct ClefRow {
-    pub glyph: Glyph,
-    pub line: i32,
-    pub sharps: Entries,
-    pub flats: Entries,
-}
+use mus_units::{Alter, Base, Deco, Glyph};
 
 /// How a rest is drawn: its glyph, and its height in steps above the bottom line.
 #[derive(Clone, Copy, PartialEq, Eq)]
 pub struct RestRow {
     pub glyph: Glyph,
     pub line: i32,
-}
-
-fn entries_at(f: i32, c: i32, g: i32, d: i32, a: i32, e: i32, b: i32) -> Entries
-    ensures { result ≡ entries_at f c g d a e b }
-{
-    Entries {
-        f,
-        c,
-        g,
-        d,
-        a,
-        e,
-        b,
-    }
-}
-
-/// Returns how a clef is drawn.
-pub(crate) fn clef_row(clef: Clef) -> ClefRow
-    ensures { result ≡ clef_row clef }
-{
-    match clef {
-        Clef::Treble => ClefRow {
-            glyph: Glyph::Cg,
-            line: 2,
-            sharps: entries_at(8, 5, 9, 6, 3, 7, 4),
-            flats: entries_at(1, 5, 2, 6, 3, 7, 4),
-        },
-        Clef::Bass => ClefRow {
-            glyph: Glyph::Cf,
-            line: 6,
-            sharps: entries_at(6, 3, 7, 4, 1, 5, 2),
-            flats: entries_at(-1, 3, 0, 4, 1, 5, 2),
-        },
-        Clef::Alto => ClefRow {
-            glyph: Glyph::Cc,
-            line: 4,
-            sharps: entries_at(7, 4, 8, 5, 2, 6, 3),
-            flats: entries_at(0, 4, 1, 5, 2, 6, 3),
-        },
-        Clef::Tenor => ClefRow {
-            glyph: Glyph::Cc,
-            line: 6,
-            sharps: entries_at(2, 6, 3, 7, 4, 8, 5),
-            flats: entries_at(2, 6, 3, 7, 4, 8, 5),
-        },
-    }
 }
 
 /// Returns the glyph of an accidental.

@@ -5,9 +5,9 @@ ghost use Rattle.mus_laid.specs.Ranked.{inked};
 
 use crate::distances::{ENTRY_STEP, LOWER_NUMBER_LINE, METER_SIGN_LINE, UPPER_NUMBER_LINE};
 use crate::drawing::{put_big_text, put_glyph, steps_dy};
-use crate::kinds::{Entries, clef_row, sign_glyph};
+use crate::kinds::sign_glyph;
 use mus_laid::MarkPen;
-use mus_units::{Alter, Clef, Letter, Memory, Meter, Sign, Text};
+use mus_units::{Alter, Clef, Entries, Letter, Memory, Meter, Sign, Text, clef_row};
 use std::alloc::Global;
 
 /// Draws a clef at the line that it names.

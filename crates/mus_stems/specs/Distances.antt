@@ -2,10 +2,7 @@
 -- column, or above the bottom line of the staff.
 use Rattle.std.specs.Prelude.{ℕ, ℤ, pos, negsuc}
 
--- a step of the staff, and the middle line, four steps up
-abbrev pub staff_step : ℤ
-staff_step = pos 250
-
+-- the middle line, four steps up
 abbrev pub middle_line : ℤ
 middle_line = pos 1000
 

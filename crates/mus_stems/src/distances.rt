@@ -1,8 +1,5 @@
 //! Distances in u, to the right of a column or above the bottom line.
 
-/// A step of the staff.
-pub const STEP: i32 = 250;
-
 /// The middle line.
 pub const MIDDLE_LINE: i32 = 1000;
 

@@ -4,9 +4,9 @@ ghost use Rattle.std.specs.List.{list_any};
 ghost use Rattle.mus_stems.specs.Heads.{AllNear};
 ghost use Rattle.mus_stems.specs.Dots.{is_right, first_dot, dot_place, dot_at, dots_at, dot_height, dots_along};
 
-use crate::distances::{BETWEEN_DOTS, DOT_COLUMN, OUTER_DOT_COLUMN, RIGHT_OF_STEM, STEP};
+use crate::distances::{BETWEEN_DOTS, DOT_COLUMN, OUTER_DOT_COLUMN, RIGHT_OF_STEM};
 use crate::heads::HeadPosition;
-use mus_units::{Memory, Row};
+use mus_units::{Memory, Row, STEP};
 
 /// The position of a dot beside an event, in u.
 #[derive(Clone, Copy, PartialEq, Eq)]

@@ -6,10 +6,10 @@ ghost use Rattle.mus_stems.specs.Ends.{low_of, high_of, lowest_in, highest_in, r
 ghost use Rattle.mus_stems.specs.Ends.{upper_end, lower_end, outer_end, stem_own_end, further_end, beam_end, run_end};
 ghost use Rattle.mus_stems.specs.Ends.{from_of, has_stem};
 
-use crate::distances::{MIDDLE_LINE, STEM_LENGTH, STEP};
+use crate::distances::{MIDDLE_LINE, STEM_LENGTH};
 use crate::heads::{HeadPosition, highest_from, lowest_from};
 use crate::stills::{StemInput, is_short_base};
-use mus_units::Wish;
+use mus_units::{STEP, Wish};
 
 fn low_in(stands: &[HeadPosition]) -> i32
     ensures { result ≡ low_of stands.now }

@@ -1,6 +1,6 @@
 -- What a glyph means to a listener, and the pitch at a height of a staff.
-use Rattle.std.specs.{Prelude.ℤ, Prelude.pos, Prelude.◌+ℤ◌, Prelude.if◌then◌else◌, Int.int_div_euclid, Ordering.int_eq}
-use Rattle.mus_units.specs.Pitch.{bottom_of}
+use Rattle.std.specs.{Prelude.{ℤ, pos, ◌+ℤ◌, Option, Some, None}, Int.int_div_euclid}
+use Rattle.mus_units.specs.Pitch.{clef_row, clef_drawn, staff_step}
 use Rattle.mus_units.specs.declared.glyph.Glyph.{Glyph}
 use Rattle.mus_units.specs.declared.pitch.Clef.{Clef}
 use Rattle.mus_units.specs.declared.pitch.Pitch.{Pitch}
@@ -8,14 +8,12 @@ use Rattle.mus_units.specs.declared.pitch.Alter.{Alter}
 use Rattle.mus_pitch.specs.Steps.{pitch_of_steps}
 use Rattle.ps_heard.specs.declared.column.Role.{Role}
 
--- a C clef on the fourth line is tenor, and any other is alto
-abbrev pub c_clef : ℤ → Clef
-c_clef dy = if int_eq dy (pos 1500) then Clef.Tenor else Clef.Alto
+-- a clef that a glyph draws, if it draws one
+abbrev pub clef_role : Option Clef → Role
+clef_role None = Role.Quiet
+clef_role (Some clef) = Role.Clef clef
 
 abbrev pub role_of : Glyph → ℤ → Role
-role_of Glyph.Cg dy = Role.Clef Clef.Treble
-role_of Glyph.Cf dy = Role.Clef Clef.Bass
-role_of Glyph.Cc dy = Role.Clef (c_clef dy)
 role_of Glyph.Ag dy = Role.Sign Alter.Flat2
 role_of Glyph.Af dy = Role.Sign Alter.Flat
 role_of Glyph.An dy = Role.Sign Alter.Natural
@@ -32,8 +30,7 @@ role_of Glyph.Bf dy = Role.Bar
 role_of Glyph.Bi dy = Role.Bar
 role_of Glyph.Bb dy = Role.Bar
 role_of Glyph.Bo dy = Role.Bar
-role_of _ dy = Role.Quiet
+role_of glyph dy = clef_role (clef_drawn glyph dy)
 
--- a step is 250 u high
 unfoldable pub pitch_at : Clef → ℤ → Pitch
-pitch_at c dy = pitch_of_steps (int_div_euclid dy (pos 250) +ℤ pos (bottom_of c))
+pitch_at c dy = pitch_of_steps (int_div_euclid dy staff_step +ℤ pos (clef_row c).bottom)
