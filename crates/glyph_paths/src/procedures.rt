@@ -15,11 +15,11 @@ fn put_point(out: &mut Text, x: i32, y: i32, operator: &[u8]) -> Result<(), Memo
     out.append(operator)
 }
 
-/// Adds the three points of a curve, with its operator.
-fn put_curve(out: &mut Text, a: i64, b: i64, c: i64, d: i64, x: i64, y: i64) -> Result<(), Memory>
-    ensures { OnOk result (out.new ≡ out.old ++ numbers (a ∷ b ∷ c ∷ d ∷ x ∷ y ∷ []) ++ codes "c ") }
+/// Adds the coordinates of the three points of a curve, with its operator.
+fn put_curve(out: &mut Text, points: &[i64]) -> Result<(), Memory>
+    ensures { OnOk result (out.new ≡ out.old ++ numbers points.now ++ codes "c ") }
 {
-    put_numbers(out, &[a, b, c, d, x, y])?;
+    put_numbers(out, points)?;
     out.append(b"c ")
 }
 
@@ -33,12 +33,7 @@ fn put_step(out: &mut Text, op: PathOp) -> Result<(), Memory>
         PathOp::Curve(a, b, c, d, x, y) => {
             put_curve(
                 out,
-                a.into(),
-                b.into(),
-                c.into(),
-                d.into(),
-                x.into(),
-                y.into(),
+                &[a.into(), b.into(), c.into(), d.into(), x.into(), y.into()],
             )
         }
         PathOp::Fill => out.append(b"h "),

@@ -9,7 +9,7 @@ use Rattle.std.specs.Int.RustNames.{unsigned_abs}
 use Rattle.std.specs.List.{slice_index_or}
 use Rattle.std.specs.Ordering.{int_eq}
 use Rattle.mus_units.specs.Good.{same_letter}
-use Rattle.mus_units.specs.Pitch.{clef_row, height_of, letter_number, staff_step}
+use Rattle.mus_units.specs.{Distances.staff_step, Pitch.{clef_row, height_of, letter_number}}
 use Rattle.mus_units.specs.declared.key.Sign.{Sign}
 use Rattle.mus_units.specs.declared.note.Head.{Head}
 use Rattle.mus_units.specs.declared.pitch.Alter.{Alter}

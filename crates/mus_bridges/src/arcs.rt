@@ -9,7 +9,7 @@ use mus_laid::Bridge;
 use mus_onsets::{Class, ColumnKey};
 use mus_time::{SystemFrame, note_key};
 use mus_units::{Memory, Row};
-use mus_words::{ArcEnd, put_arc};
+use mus_words::{ArcEnd, PlacedPiece, put_arc};
 
 /// Returns the event with an id.
 fn event_with<'a, 'b>(id: u32, events: &'a [DrawnEvent<'b>]) -> Option<&'a DrawnEvent<'b>>
@@ -90,7 +90,8 @@ fn put_arc_between(
     };
     let left = left_key(frame.a, piece, arc.from, first);
     let right = right_key(frame, piece, arc.to, last);
-    put_arc(out, left, right, piece, arc, end_of(first), end_of(last))
+    let placed = PlacedPiece { left, right, piece };
+    put_arc(out, placed, arc, end_of(first), end_of(last))
 }
 
 /// Draws the piece of an arc in a system, if there is one.

@@ -1,17 +1,13 @@
 -- Named distances and heights in u. Heights are counted from the bottom line of a staff.
 use Rattle.std.specs.Prelude.{ℕ}
 
+pub use Rattle.mus_units.specs.Distances.{stem_side, grace_stem_side, tie_gap}
+
 -- the greatest distance of a height from the bottom line
 abbrev pub greatest_height : ℕ
 greatest_height = 1073741824
 
--- a stem from its column, that of a grace, and the length of the stem of a grace above its highest head
-abbrev pub stem_side : ℕ
-stem_side = 280
-
-abbrev pub grace_stem_side : ℕ
-grace_stem_side = 190
-
+-- the length of the stem of a grace above its highest head
 abbrev pub grace_stem_length : ℕ
 grace_stem_length = 1250
 
@@ -87,16 +83,12 @@ text_step = 1000
 abbrev pub text_gap : ℕ
 text_gap = 400
 
--- arcs: a slur above the tops of its events and how far it bulges, a tie beside its heads, which bulges as far, and
--- the height of a slur or tie with both ends cut
+-- arcs: a slur above the tops of its events and how far it bulges, and the height of a slur or tie with both ends cut
 abbrev pub slur_gap : ℕ
 slur_gap = 400
 
 abbrev pub slur_bulge : ℕ
 slur_bulge = 700
-
-abbrev pub tie_gap : ℕ
-tie_gap = 400
 
 abbrev pub cut_arc_line : ℕ
 cut_arc_line = 2750

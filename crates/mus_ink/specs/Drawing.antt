@@ -2,7 +2,7 @@
 -- another. The positions of the columns are not determined here.
 use Rattle.std.specs.Prelude.{ℕ, ℤ, pos, ◌*ℤ◌, ◌-ℤ◌, List}
 use Rattle.std.specs.Int.{int_min, int_max}
-use Rattle.mus_units.specs.Pitch.{staff_step}
+use Rattle.mus_units.specs.Distances.{staff_step}
 use Rattle.mus_units.specs.declared.glyph.Glyph.{Glyph}
 use Rattle.mus_units.specs.declared.glyph.Way.{Way}
 use Rattle.mus_units.specs.declared.glyph.Size.{Size}

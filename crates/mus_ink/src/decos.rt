@@ -7,7 +7,7 @@ use crate::drawing::{cut_dy, put_glyph};
 use crate::kinds::deco_glyph;
 use crate::notes::{head_dy, highest_dy, put_heads_of};
 use crate::rests::put_rest;
-use crate::stems::put_stem_of;
+use crate::stems::{BeamLevels, put_stem_of};
 use mus_laid::{MarkPen, TOP_LINE};
 use mus_score::Event;
 use mus_stems::StemPlan;
@@ -51,11 +51,8 @@ fn put_decos(pen: &mut MarkPen, first: i32, decos: &[Deco]) -> Result<(), Memory
     Ok(())
 }
 
-/// Draws an event in `clef`: accidentals, ledger lines, heads, dots, a stem that ends at `to`, flags or stubs, and
-/// the decorations that have a glyph; or a rest, `raise` higher than alone on its staff. Its syllables and texts are
-/// drawn later.
-///
-/// `before` and `after` are the levels of the events beside it in its beam, 0 if there is none.
+/// Draws an event in `clef`: accidentals, ledger lines, heads, dots, a stem, flags or stubs, and the decorations that
+/// have a glyph; or a rest, `raise` higher than alone on its staff. Its syllables and texts are drawn later.
 #[tactic(auto, unfolding(crate::specs::Decos::note_marks, crate::specs::Notes::heads_marks))]
 pub fn put_note(
     pen: &mut MarkPen,
@@ -63,25 +60,23 @@ pub fn put_note(
     raise: i32,
     event: &Event,
     plan: &StemPlan,
-    to: i32,
-    before: u8,
-    after: u8,
+    levels: BeamLevels,
 ) -> Result<(), Memory>
     ensures { OnOk result
-        (pen.new ≡ inked pen.old (note_marks clef raise event.now (with_end plan.now to) before after)) }
+        (pen.new ≡ inked pen.old (note_marks clef raise event.now plan.now levels.before levels.after)) }
 {
     let heads = event.heads.as_slice();
     match heads {
         [] => put_rest(pen, raise, event.look, event.value, plan.flags)?,
         heads => {
             put_heads_of(pen, clef, event.value.base, heads, plan)?;
-            put_stem_of(pen, plan, to, before, after)?;
+            put_stem_of(pen, plan, levels)?;
         }
     }
     match event.decos.as_slice() {
         [] => Ok(()),
         decos => {
-            let top = top_of(clef, heads, plan, to);
+            let top = top_of(clef, heads, plan, plan.to);
             put_decos(pen, first_deco(top), decos)
         }
     }

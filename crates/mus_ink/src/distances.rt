@@ -1,12 +1,10 @@
 //! Distances and heights in u, with the names that the definitions give them.
 
+pub use mus_units::distances::{GRACE_STEM_SIDE, STEM_SIDE, TIE_GAP};
+
 /// The greatest distance of a height from the bottom line.
 pub const FURTHEST: i64 = 1_073_741_824;
 
-/// A stem, from its column.
-pub const STEM_SIDE: i32 = 280;
-/// The stem of a grace, from its column.
-pub const GRACE_STEM_SIDE: i32 = 190;
 /// The length of the stem of a grace above its highest head.
 pub const GRACE_STEM_LENGTH: i64 = 1250;
 /// The first accidental before a grace, to the left of its column.
@@ -60,7 +58,5 @@ pub const TEXT_GAP: i64 = 400;
 pub const SLUR_GAP: i64 = 400;
 /// How far a slur bulges.
 pub const SLUR_BULGE: i32 = 700;
-/// From a head to its tie, which bulges as far.
-pub const TIE_GAP: i32 = 400;
 /// The height of an arc whose ends are both cut.
 pub const CUT_ARC_LINE: i32 = 2750;

@@ -5,7 +5,8 @@ ghost use Rattle.mus_laid.specs.Ranked.{inked};
 use crate::distances::FURTHEST;
 use mus_laid::{Bridge, BridgeShape, Ink, Lane, LaneInk, MarkPen};
 use mus_onsets::ColumnKey;
-use mus_units::{Glyph, Memory, Row, STEP, Size, Text, Way};
+use mus_units::distances::STEP;
+use mus_units::{Glyph, Memory, Row, Size, Text, Way};
 
 /// Returns a height clamped to ±2^30 u.
 #[tactic(auto, unfolding(crate::specs::Drawing::cut_dy))]

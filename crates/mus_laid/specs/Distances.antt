@@ -1,12 +1,6 @@
 -- The distances of what is drawn, in u. Heights are counted from the bottom line of a staff.
 use Rattle.std.specs.Prelude.{ℕ}
-
--- the top line of a staff
-abbrev pub top_line : ℕ
-top_line = 2000
-
-abbrev pub beam_thickness : ℕ
-beam_thickness = 250
+pub use Rattle.mus_units.specs.Distances.{top_line, beam_thickness}
 
 -- the width of a character, and how far a line of text goes below and above its base
 abbrev pub small_width : ℕ

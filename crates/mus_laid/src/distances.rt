@@ -1,10 +1,6 @@
 //! The distances of what is drawn, in u, with the names that the definitions give them.
 
-/// The height of the top line of a staff above the bottom line.
-pub const TOP_LINE: i32 = 2000;
-
-/// The thickness of a beam.
-pub const BEAM_THICKNESS: i64 = 250;
+pub use mus_units::distances::{BEAM_THICKNESS, TOP_LINE};
 
 /// The width of a character of small text.
 pub const SMALL_WIDTH: u32 = 540;

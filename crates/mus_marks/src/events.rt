@@ -14,7 +14,7 @@ ghost use Rattle.mus_marks.specs.Places.{HasVerses};
 
 use crate::silence::is_silent;
 use mus_drawn::{DrawnEvent, raise_of};
-use mus_ink::{Group, group_of, put_change, put_grace, put_note};
+use mus_ink::{BeamLevels, Group, group_of, put_change, put_grace, put_note};
 use mus_laid::MarkPen;
 use mus_onsets::{Class, ColumnKey};
 use mus_score::{Changes, Event, Flat};
@@ -170,7 +170,14 @@ fn draw_note(pen: &mut MarkPen, before: u8, after: u8, e: &DrawnEvent<'_>) -> Re
 {
     let (event, plan) = (e.flat.event(), &e.plan);
     let raise = raise_of(e.seat);
-    put_note(pen, e.clef, raise, event, plan, plan.to, before, after)
+    put_note(
+        pen,
+        e.clef,
+        raise,
+        event,
+        plan,
+        BeamLevels { before, after },
+    )
 }
 
 /// Draws an event in its column, with its syllables and texts if their place is known.

@@ -5,7 +5,7 @@ use Rattle.std.specs.Ordering.{int_eq}
 use Rattle.std.specs.List.{list_any}
 use Rattle.mus_stems.specs.declared.heads.HeadPosition.{HeadPosition}
 use Rattle.mus_stems.specs.declared.dots.Spot.{Spot}
-use Rattle.mus_units.specs.Pitch.{staff_step}
+use Rattle.mus_units.specs.Distances.{staff_step}
 use Rattle.mus_stems.specs.Distances.{right_of_stem, dot_column, outer_dot_column, between_dots}
 
 unfoldable pub is_right : ℤ → Bool

@@ -5,7 +5,7 @@ use Rattle.std.specs.Int.{int_min, int_max}
 use Rattle.mus_units.specs.declared.note.Wish.{Wish}
 use Rattle.mus_stems.specs.declared.heads.HeadPosition.{HeadPosition}
 use Rattle.mus_stems.specs.declared.stills.StemInput.{StemInput}
-use Rattle.mus_units.specs.Pitch.{staff_step}
+use Rattle.mus_units.specs.Distances.{staff_step}
 use Rattle.mus_stems.specs.Distances.{middle_line, stem_length}
 use Rattle.mus_stems.specs.Heads.{lowest, highest}
 use Rattle.mus_stems.specs.Stills.{is_short}

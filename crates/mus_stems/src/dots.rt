@@ -6,7 +6,8 @@ ghost use Rattle.mus_stems.specs.Dots.{is_right, first_dot, dot_place, dot_at, d
 
 use crate::distances::{BETWEEN_DOTS, DOT_COLUMN, OUTER_DOT_COLUMN, RIGHT_OF_STEM};
 use crate::heads::HeadPosition;
-use mus_units::{Memory, Row, STEP};
+use mus_units::distances::STEP;
+use mus_units::{Memory, Row};
 
 /// The position of a dot beside an event, in u.
 #[derive(Clone, Copy, PartialEq, Eq)]

@@ -9,7 +9,8 @@ ghost use Rattle.mus_stems.specs.Ends.{from_of, has_stem};
 use crate::distances::{MIDDLE_LINE, STEM_LENGTH};
 use crate::heads::{HeadPosition, highest_from, lowest_from};
 use crate::stills::{StemInput, is_short_base};
-use mus_units::{STEP, Wish};
+use mus_units::Wish;
+use mus_units::distances::STEP;
 
 fn low_in(stands: &[HeadPosition]) -> i32
     ensures { result ≡ low_of stands.now }

@@ -1,6 +1,7 @@
 ghost use Rattle.std.specs.Prelude.{◌≡◌};
 ghost use Rattle.mus_units.specs.Pitch.{height_of, letter_number, clef_row, clef_named, clef_drawn};
 
+use crate::distances::STEP;
 use crate::glyph::Glyph;
 
 /// The letter of a pitch, from C up.
@@ -192,9 +193,6 @@ pub fn clef_named(name: &[u8]) -> Option<Clef>
         .copied()
         .find(|clef| clef_row(*clef).name == name)
 }
-
-/// A step of the staff, from a line to the space above it, in u.
-pub const STEP: i32 = 250;
 
 /// Returns the clef that a glyph draws at a height `dy`, in u above the bottom line. `None` if it draws no clef. A C
 /// clef that is on no line of its own is alto.

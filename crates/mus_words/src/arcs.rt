@@ -23,6 +23,14 @@ pub struct ArcEnd<'a> {
     pub to: i32,
 }
 
+/// A piece of an arc, and the columns of its ends.
+#[derive(Clone, Copy)]
+pub struct PlacedPiece {
+    pub left: ColumnKey,
+    pub right: ColumnKey,
+    pub piece: Piece,
+}
+
 fn put_arc_between(
     out: &mut Row<Bridge>,
     first: ColumnKey,
@@ -54,15 +62,15 @@ fn piece_dy(is_cut: bool, is_other_cut: bool, own: i32, other: i32) -> i32
 /// Draws a piece of an arc that would go from dy `from` to dy `to` if it were uncut.
 fn put_piece(
     out: &mut Row<Bridge>,
-    left: ColumnKey,
-    right: ColumnKey,
-    piece: Piece,
+    placed: PlacedPiece,
     from: i32,
     to: i32,
     bulge: i32,
 ) -> Result<(), Memory>
-    ensures { OnOk result (out.new ≡ out.old ++ piece_mark left right piece from to bulge ∷ []) }
+    ensures { OnOk result
+        (out.new ≡ out.old ++ piece_mark placed.left placed.right placed.piece from to bulge ∷ []) }
 {
+    let PlacedPiece { left, right, piece } = placed;
     let left_dy = piece_dy(piece.cut_left, piece.cut_right, from, to);
     let right_dy = piece_dy(piece.cut_right, piece.cut_left, to, from);
     put_arc_between(out, left, right, left_dy, right_dy, bulge)
@@ -79,24 +87,16 @@ fn slur_dy(end: ArcEnd<'_>) -> i32
 #[tactic(auto, unfolding(crate::specs::Arcs::slur_mark))]
 fn put_slur(
     out: &mut Row<Bridge>,
-    left: ColumnKey,
-    right: ColumnKey,
-    piece: Piece,
+    placed: PlacedPiece,
     from: ArcEnd<'_>,
     to: ArcEnd<'_>,
 ) -> Result<(), Memory>
     ensures { OnOk result
-        (out.new ≡ out.old ++ slur_mark left right piece (arc_end_event from.entry) (arc_end_event to.entry) ∷ []) }
+        (out.new
+        ≡ out.old
+        ++ slur_mark placed.left placed.right placed.piece (arc_end_event from.entry) (arc_end_event to.entry) ∷ []) }
 {
-    put_piece(
-        out,
-        left,
-        right,
-        piece,
-        slur_dy(from),
-        slur_dy(to),
-        SLUR_BULGE,
-    )
+    put_piece(out, placed, slur_dy(from), slur_dy(to), SLUR_BULGE)
 }
 
 /// Returns whether a tie from an event bulges upwards.
@@ -174,26 +174,25 @@ fn numbered_head(heads: &[Head], number: u32) -> Option<Head>
 #[tactic(auto, unfolding(crate::specs::Arcs::tie_mark))]
 fn put_tie(
     out: &mut Row<Bridge>,
-    left: ColumnKey,
-    right: ColumnKey,
-    piece: Piece,
+    placed: PlacedPiece,
     number: u32,
     from: ArcEnd<'_>,
     to: ArcEnd<'_>,
 ) -> Result<(), Memory>
     ensures { OnOk result
         (out.new
-        ≡ out.old ++ tie_mark left right piece number (arc_end_event from.entry) (arc_end_event to.entry) ∷ []) }
+        ≡ out.old
+        ++ tie_mark placed.left placed.right placed.piece number (arc_end_event from.entry) (arc_end_event to.entry)
+        ∷ []) }
 {
     let head = numbered_head(from.heads, number);
     let up = bulges_up(from.plan);
     let from_dy = tie_dy(up, from.clef, head);
     let to_dy = tie_dy(up, to.clef, tied_head(head, to.heads));
-    put_piece(out, left, right, piece, from_dy, to_dy, tie_bulge(up))
+    put_piece(out, placed, from_dy, to_dy, tie_bulge(up))
 }
 
-/// Draws the piece of an arc in a system, from the column of `left` to that of `right`; `from` and `to` are the arc's
-/// first and last event. A slur ends 400 u above the tops of its events and bulges by 700 u. A tie ends 400 u beside
+/// Draws the piece of an arc in a system; `from` and `to` are the arc's first and last event. A slur ends 400 u above the tops of its events and bulges by 700 u. A tie ends 400 u beside
 /// its heads and bulges by 400 u, downwards if the stem of its first event goes up. An end that the system cuts is as
 /// high as the other end; if both are cut, both are at 2750 u. Each dy is clamped to ±2^30 u. The only error is out
 /// of memory.
@@ -203,20 +202,20 @@ fn put_tie(
 #[tactic(auto, unfolding(crate::specs::Arcs::arc_mark))]
 pub fn put_arc(
     out: &mut Row<Bridge>,
-    left: ColumnKey,
-    right: ColumnKey,
-    piece: Piece,
+    placed: PlacedPiece,
     arc: &Arc,
     from: ArcEnd<'_>,
     to: ArcEnd<'_>,
 ) -> Result<(), Memory>
     ensures { OnOk result
         (out.new
-        ≡ out.old ++ arc_mark left right piece arc.now (arc_end_event from.entry) (arc_end_event to.entry) ∷ []) }
+        ≡ out.old
+        ++ arc_mark placed.left placed.right placed.piece arc.now (arc_end_event from.entry) (arc_end_event to.entry)
+        ∷ []) }
 {
     if arc.tie {
-        put_tie(out, left, right, piece, arc.head, from, to)
+        put_tie(out, placed, arc.head, from, to)
     } else {
-        put_slur(out, left, right, piece, from, to)
+        put_slur(out, placed, from, to)
     }
 }

@@ -6,6 +6,6 @@ pub mod syllables;
 pub mod texts;
 mod words;
 
-pub use arcs::{ArcEnd, put_arc};
+pub use arcs::{ArcEnd, PlacedPiece, put_arc};
 pub use syllables::put_syllables;
 pub use texts::{TextPlace, put_texts};

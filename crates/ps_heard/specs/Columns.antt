@@ -1,10 +1,11 @@
 -- The columns of a staff of a system. The anchors of all staves of the system, from the left and each once, are the
 -- places of its columns. A column has the meanings of the glyphs at its anchor, in the staff's order, and the heights
--- of the heads at which a tie ends there: an arc of bulge 400 or -400 ends that far from its head. The first column
+-- of the heads at which a tie ends there: an arc that bulges as a tie does ends that far from its head. The first column
 -- of a system leads it.
-use Rattle.std.specs.Prelude.{ℤ, pos, negsuc, ◌-ℤ◌, ◌||◌, ◌&&◌, int_lt, if◌then◌else◌, Bool, true, false, List, [], ◌∷◌}
+use Rattle.std.specs.Prelude.{ℤ, pos, ◌-ℤ◌, ◌||◌, ◌&&◌, int_lt, if◌then◌else◌, Bool, true, false, List, [], ◌∷◌}
 use Rattle.std.specs.Prelude.{flat_map}
 use Rattle.std.specs.Ordering.{int_eq}
+use Rattle.mus_units.specs.Distances.{tie_gap}
 use Rattle.ps_text.specs.declared.marks.PageMark.{PageMark}
 use Rattle.ps_heard.specs.declared.column.HeardColumn.{HeardColumn}
 use Rattle.ps_heard.specs.declared.column.HeardGlyph.{HeardGlyph}
@@ -22,7 +23,7 @@ glyphs_at x (PageMark.Glyph glyph at dx dy) = if int_eq at x then noted (role_of
 glyphs_at x _ = []
 
 abbrev pub bulges_as_tie : ℤ → Bool
-bulges_as_tie bulge = int_eq bulge (pos 400) || int_eq bulge (negsuc 399)
+bulges_as_tie bulge = int_eq bulge (pos tie_gap) || int_eq bulge (pos 0 -ℤ pos tie_gap)
 
 -- the height of the head at which a tie ends at an anchor
 abbrev pub tie_at : ℤ → PageMark → List ℤ

@@ -1,6 +1,6 @@
 -- What a glyph means to a listener, and the pitch at a height of a staff.
 use Rattle.std.specs.{Prelude.{ℤ, pos, ◌+ℤ◌, Option, Some, None}, Int.int_div_euclid}
-use Rattle.mus_units.specs.Pitch.{clef_row, clef_drawn, staff_step}
+use Rattle.mus_units.specs.{Distances.staff_step, Pitch.clef_row, Pitch.clef_drawn}
 use Rattle.mus_units.specs.declared.glyph.Glyph.{Glyph}
 use Rattle.mus_units.specs.declared.pitch.Clef.{Clef}
 use Rattle.mus_units.specs.declared.pitch.Pitch.{Pitch}

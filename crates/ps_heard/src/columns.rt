@@ -7,6 +7,7 @@ ghost use Rattle.ps_heard.specs.Filling.{at_place, with_page_mark, with_note, wi
 use crate::anchors::place_of;
 use crate::column::{HeardColumn, HeardGlyph, Role};
 use crate::roles::role_of;
+use mus_units::distances::TIE_GAP;
 use mus_units::{Memory, Row};
 use ps_text::PageMark;
 use std::alloc::Global;
@@ -34,7 +35,7 @@ impl HeardColumn {
 fn bulges_as_tie(bulge: i32) -> bool
     ensures { result ≡ bulges_as_tie bulge }
 {
-    bulge == 400 || bulge == -400
+    bulge == TIE_GAP || bulge == -TIE_GAP
 }
 
 /// Adds a glyph to the column at its anchor.

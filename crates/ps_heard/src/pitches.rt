@@ -1,8 +1,9 @@
 ghost use Rattle.std.specs.{Prelude.◌≡◌, Int.int_div_euclid};
-ghost use Rattle.{mus_units.specs.Pitch.{staff_step}, ps_heard.specs.Roles.{pitch_at}};
+ghost use Rattle.{mus_units.specs.Distances.{staff_step}, ps_heard.specs.Roles.{pitch_at}};
 
 use mus_pitch::pitch_of_steps;
-use mus_units::{Clef, Pitch, STEP, clef_row};
+use mus_units::distances::STEP;
+use mus_units::{Clef, Pitch, clef_row};
 
 fn height(dy: i32) -> i32
     ensures { result ≡ int_div_euclid dy staff_step }

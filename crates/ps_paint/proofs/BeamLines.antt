@@ -1,5 +1,6 @@
 -- The lines of beams.
 use Rattle.std.proofs.{Common.{◌≡◌, true, ℤ, pos, [], ◌∷◌, refl, arith}, Math.IntN.{◌+ℤ◌, +ℤ_comm}, lemmas.Int.ints}
+use Rattle.mus_units.specs.Distances.{beam_thickness}
 use Rattle.mus_units.specs.declared.glyph.Way.{Way}
 use Rattle.ps_text.specs.Range.{IsNumber, IsSpan}
 use Rattle.ps_text.specs.Line.{beam_line, points, ends_of}
@@ -36,13 +37,13 @@ way_word Way.Up = record { some = omega arith; regular = refl; token = refl }
 way_word _ = record { some = omega arith; regular = refl; token = refl }
 
 pub beam_drawn : {f : Frame} {ds : Names} (made : Made f ds) (y : ℤ) (way : Way) (x1 x2 from to : ℤ)
-    → IsSpan y x1 x2 from to (pos 250)
+    → IsSpan y x1 x2 from to (pos beam_thickness)
     → Draws f ds (mark_text y (PageMark.Beam way x1 x2 from to)) (mark_paints f y (PageMark.Beam way x1 x2 from to))
 unfolding mark_text beam_line points ends_of
 beam_drawn made y way x1 x2 from to s =
     let a = y +ℤ from in
     let b = y +ℤ to in
-    let zs = x1 ∷ (a +ℤ pos 250) ∷ x2 ∷ (b +ℤ pos 250) ∷ x2 ∷ b ∷ x1 ∷ a ∷ [] in
+    let zs = x1 ∷ (a +ℤ pos beam_thickness) ∷ x2 ∷ (b +ℤ pos beam_thickness) ∷ x2 ∷ b ∷ x1 ∷ a ∷ [] in
     let n1 = s.stretch.first in
     let n2 = s.stretch.last in
     let na = s.left.point in
@@ -53,9 +54,9 @@ beam_drawn made y way x1 x2 from to s =
     let right = from_edge way x2 n2 in
     let near : all_near zs ≡ true = rw (
       page_near x1 n1,
-      page_near (a +ℤ pos 250) nu,
+      page_near (a +ℤ pos beam_thickness) nu,
       page_near x2 n2,
-      page_near (b +ℤ pos 250) nv,
+      page_near (b +ℤ pos beam_thickness) nv,
       page_near b nb,
       page_near a na,
     ) refl in
@@ -65,5 +66,5 @@ beam_drawn made y way x1 x2 from to s =
     (both_runs (pushes (edge way ∷ pos 0 ∷ []))
     (both_runs (translates made (from_zero (edge way) (edge_number way)) no_way)
     (both_runs (moves made left (from_zero a na))
-    (both_runs (lines made refl right (from_zero b nb)) (both_runs (lines made refl right (from_zero (b +ℤ pos 250) nv))
-    (both_runs (lines made refl left (from_zero (a +ℤ pos 250) nu)) (both_runs (fills made refl) (restores made)))))))))
+    (both_runs (lines made refl right (from_zero b nb)) (both_runs (lines made refl right (from_zero (b +ℤ pos beam_thickness) nv))
+    (both_runs (lines made refl left (from_zero (a +ℤ pos beam_thickness) nu)) (both_runs (fills made refl) (restores made)))))))))

@@ -1,5 +1,6 @@
 -- The procedures that the prolog defines, as tokens.
 use Rattle.std.specs.{Prelude.{◌≡◌, ℤ, pos, ℕ, List, [], ◌∷◌, ◌++◌, codes, Some, None}, List.flat_map}
+use Rattle.mus_units.specs.Distances.{top_line, fourth_line, third_line, second_line}
 use Rattle.mus_units.specs.declared.glyph.Glyph.{Glyph}
 use Rattle.mus_units.specs.declared.glyph.Size.{Size}
 use Rattle.mus_units.specs.declared.glyph.Way.{Way}
@@ -28,8 +29,8 @@ rule_tokens up = whole_token (pos 0) ∷ whole_token up ∷ call (codes "m") ∷
 abbrev pub sf_body : List SimpleToken
 sf_body =
     op gsave_op ∷ op translate_op
-    ∷ (rule_tokens (pos 0) ++ rule_tokens (pos 500) ++ rule_tokens (pos 1000) ++ rule_tokens (pos 1500)
-    ++ rule_tokens (pos 2000) ++ op stroke_op ∷ op grestore_op ∷ [])
+    ∷ (rule_tokens (pos 0) ++ rule_tokens (pos second_line) ++ rule_tokens (pos third_line) ++ rule_tokens (pos fourth_line)
+    ++ rule_tokens (pos top_line) ++ op stroke_op ∷ op grestore_op ∷ [])
 
 abbrev pub vl_body : List SimpleToken
 vl_body = call (codes "m") ∷ call (codes "l") ∷ op stroke_op ∷ []

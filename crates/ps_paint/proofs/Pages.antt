@@ -4,6 +4,7 @@ use Rattle.std.proofs.Common.{append-nil, map, refl, subst, arith, decimal, code
 use Rattle.std.proofs.Math.IntN.{◌+ℤ◌}
 use Rattle.std.proofs.lemmas.Int.{ints}
 use Rattle.std.{proofs.lemmas.List.Elements.{All-head, All-tail}, specs.List.flat_map}
+use Rattle.mus_units.specs.Distances.{top_line}
 use Rattle.ps_text.specs.Document.{numbered, mark_text, marks_text, rules_line, staff_line, staff_text, last_base}
 use Rattle.ps_text.specs.Document.{join_text, system_line, system_text, tune_line, tune_text, item_text, items_text}
 use Rattle.ps_text.specs.Document.{document_page}
@@ -80,7 +81,7 @@ module _ {f : Frame} {ds : Names} (made : Made f ds) where
   joined_drawn [] j a = nothing_drawn
   joined_drawn (s ∷ []) j a = nothing_drawn
   joined_drawn (s ∷ t ∷ rest) j a =
-      join_drawn made (s.y +ℤ pos 2000) (last_base t rest) j (last_number t rest (All-tail IsStaff s (t ∷ rest) a))
+      join_drawn made (s.y +ℤ pos top_line) (last_base t rest) j (last_number t rest (All-tail IsStaff s (t ∷ rest) a))
 
   item_drawn : (i : Item) → IsItem i → Draws f ds (item_text i) (item_paints f i)
   unfolding tune_text tune_line system_text system_line

@@ -2,6 +2,7 @@
 use Rattle.std.proofs.Common.{◌≡◌, ℕ, true, ℤ, pos, List, [], ◌∷◌, ◌++◌, refl, arith, nat_le, codes}
 use Rattle.std.proofs.Math.IntN.{◌+ℤ◌, +ℤ_idr}
 use Rattle.std.proofs.lemmas.Int.{ints}
+use Rattle.mus_units.specs.Distances.{top_line, fourth_line, third_line, second_line}
 use Rattle.ps_text.specs.Document.{rules_line}
 use Rattle.ps_text.specs.declared.sheet.Frame.{Frame}
 use Rattle.ps_text.specs.Range.{IsNumber}
@@ -32,7 +33,7 @@ module _ {f : Frame} {ds : Names} (made : Made f ds) where
       both_runs (pushes (pos 0 ∷ up ∷ []))
       (both_runs (moves made no_way c) (lines made (has_path path _) (from_zero w n) c))
 
-  above : (y : ℤ) (n : ℕ) → IsNumber y → nat_le n 2000 ≡ true → Comes y (pos n) (y +ℤ pos n)
+  above : (y : ℤ) (n : ℕ) → IsNumber y → nat_le n top_line ≡ true → Comes y (pos n) (y +ℤ pos n)
   above y n h l = from_number y (pos n) h (record { low = grind (arith, ints); high = grind (arith, ints) })
 
   pub rules_drawn : (width : ℕ) (y : ℤ)
@@ -41,13 +42,13 @@ module _ {f : Frame} {ds : Names} (made : Made f ds) where
   unfolding rules_line
   rules_drawn width y nw ny =
       let w = pos width in
-      let zs = w ∷ pos 2000 ∷ w ∷ pos 1500 ∷ w ∷ pos 1000 ∷ w ∷ pos 500 ∷ w ∷ pos 0 ∷ pos 0 ∷ y ∷ [] in
+      let zs = w ∷ pos top_line ∷ w ∷ pos fourth_line ∷ w ∷ pos third_line ∷ w ∷ pos second_line ∷ w ∷ pos 0 ∷ pos 0 ∷ y ∷ [] in
       let near : all_near zs ≡ true = rw (page_near w nw, page_near y ny) refl in
       let lowest : Comes y (pos 0) y = record { is = +ℤ_idr y; close = close_number y ny } in
       line_drawn zs (codes "sf") near (record { some = omega arith; regular = refl; token = refl }) made.sf
       (omega arith)
       (λ st saved ps pages. both_runs (saves made) (both_runs (translates made no_way (from_zero y ny))
       (both_runs (next_rule nw lowest)
-      (both_runs (next_rule nw (above y 500 ny refl)) (both_runs (next_rule nw (above y 1000 ny refl))
-      (both_runs (next_rule nw (above y 1500 ny refl))
-      (both_runs (next_rule nw (above y 2000 ny refl)) (both_runs (strokes made (pos 0) y) (restores made)))))))))
+      (both_runs (next_rule nw (above y second_line ny refl)) (both_runs (next_rule nw (above y third_line ny refl))
+      (both_runs (next_rule nw (above y fourth_line ny refl))
+      (both_runs (next_rule nw (above y top_line ny refl)) (both_runs (strokes made (pos 0) y) (restores made)))))))))

@@ -2,6 +2,7 @@
 -- and the words shown.
 use Rattle.std.specs.Prelude.{ℕ, ℤ, pos, ◌*◌, ◌+ℤ◌, ◌-ℤ◌, ◌*ℤ◌, List, [], ◌∷◌, ◌++◌, map}
 use Rattle.std.specs.List.{flat_map}
+use Rattle.mus_units.specs.Distances.{top_line, fourth_line, third_line, second_line, beam_thickness, stem_side, grace_stem_side}
 use Rattle.mus_units.specs.declared.glyph.Size.{Size}
 use Rattle.mus_units.specs.declared.glyph.Way.{Way}
 use Rattle.glyph_paths.specs.declared.paths.PathOp.{PathOp}
@@ -34,9 +35,12 @@ line f x y = Seg.Line (to_x f x) (to_y f y)
 abbrev pub curve : Frame → ℤ → ℤ → ℤ → ℤ → ℤ → ℤ → Seg
 curve f a b c d x y = Seg.Curve (to_x f a) (to_y f b) (to_x f c) (to_y f d) (to_x f x) (to_y f y)
 
--- lines are 60 u wide
+-- the width of lines, in u
+abbrev pub line_width : ℕ
+line_width = 60
+
 abbrev pub stroked : Frame → List Seg → Paint
-stroked f path = Paint.Stroke (pos 60 *ℤ pos f.scale) path
+stroked f path = Paint.Stroke (pos line_width *ℤ pos f.scale) path
 
 -- a path is closed and filled
 abbrev pub filled_paint : List Seg → Paint
@@ -68,14 +72,14 @@ glyph_paints f x y outline = outline_paints f x y [] outline
 
 -- how far right of the ends of its line the edges of a beam are
 abbrev pub edge : Way → ℤ
-edge Way.Up = pos 280
-edge Way.Down = neg 280
-edge Way.Grace = pos 190
+edge Way.Up = pos stem_side
+edge Way.Down = neg stem_side
+edge Way.Grace = pos grace_stem_side
 
--- a beam from (x1, a) to (x2, b) is 250 thick
+-- a beam from (x1, a) to (x2, b)
 abbrev pub beam_paint : Frame → ℤ → ℤ → ℤ → ℤ → Paint
 beam_paint f x1 a x2 b =
-    filled_paint (move f x1 a ∷ line f x2 b ∷ line f x2 (b +ℤ pos 250) ∷ line f x1 (a +ℤ pos 250) ∷ [])
+    filled_paint (move f x1 a ∷ line f x2 b ∷ line f x2 (b +ℤ pos beam_thickness) ∷ line f x1 (a +ℤ pos beam_thickness) ∷ [])
 
 -- an arc from (x1, a) to (x2, b); its inner points are a quarter of the way from its ends, its bulge above them
 abbrev pub arc_paint : Frame → ℤ → ℤ → ℤ → ℤ → ℤ → Paint
@@ -99,19 +103,19 @@ rule f width y = move f (pos 0) y ∷ line f width y ∷ []
 -- the five lines of a staff at y, from the lowest, in one stroke
 abbrev pub rules : Frame → ℤ → ℤ → List Seg
 rules f width y =
-    rule f width y ++ rule f width (y +ℤ pos 500) ++ rule f width (y +ℤ pos 1000) ++ rule f width (y +ℤ pos 1500)
-    ++ rule f width (y +ℤ pos 2000)
+    rule f width y ++ rule f width (y +ℤ pos second_line) ++ rule f width (y +ℤ pos third_line) ++ rule f width (y +ℤ pos fourth_line)
+    ++ rule f width (y +ℤ pos top_line)
 
 -- a staff: its lines, and its marks
 abbrev pub staff_paints : Frame → Staff → List Paint
 staff_paints f s = stroked f (rules f (pos s.width) s.y) ∷ flat_map (mark_paints f s.y) s.marks
 
--- two or more staves are joined by a line, from the last base to 2000 above the first
+-- two or more staves are joined by a line, from the last base to the top line of the first
 abbrev pub join_paints : Frame → List Staff → List Paint
 join_paints f [] = []
 join_paints f (s ∷ []) = []
 join_paints f (s ∷ t ∷ rest) =
-    stroked f (move f (pos 0) (last_base t rest) ∷ line f (pos 0) (s.y +ℤ pos 2000) ∷ []) ∷ []
+    stroked f (move f (pos 0) (last_base t rest) ∷ line f (pos 0) (s.y +ℤ pos top_line) ∷ []) ∷ []
 
 -- the beginning of a tune paints nothing; a title is shown; a system is its joining line and its staves
 abbrev pub item_paints : Frame → Item → List Paint

@@ -7,6 +7,7 @@ use Rattle.std.proofs.lemmas.Fmt.{signed_decimal_injective}
 use Rattle.std.proofs.lemmas.Int.{ints}
 use Rattle.std.specs.Fmt.{signed_decimal, digits}
 use Rattle.std.specs.List.{flat_map, list_all}
+use Rattle.mus_units.specs.Distances.{beam_thickness}
 use Rattle.mus_units.specs.declared.glyph.Glyph.{Glyph}
 use Rattle.mus_units.specs.declared.glyph.Size.{Size}
 use Rattle.mus_units.specs.declared.glyph.Way.{Way}
@@ -237,7 +238,7 @@ numbers_of y (PageMark.Glyph glyph x dx dy) = dx ∷ dy ∷ x ∷ y ∷ []
 numbers_of y (PageMark.Words size x dx dy words) = []
 numbers_of y (PageMark.Stem x dx from to) = dx ∷ to ∷ dx ∷ from ∷ x ∷ y ∷ []
 numbers_of y (PageMark.Beam way x1 x2 from to) =
-    x1 ∷ ((y +ℤ from) +ℤ pos 250) ∷ x2 ∷ ((y +ℤ to) +ℤ pos 250) ∷ x2 ∷ (y +ℤ to) ∷ x1 ∷ (y +ℤ from) ∷ []
+    x1 ∷ ((y +ℤ from) +ℤ pos beam_thickness) ∷ x2 ∷ ((y +ℤ to) +ℤ pos beam_thickness) ∷ x2 ∷ (y +ℤ to) ∷ x1 ∷ (y +ℤ from) ∷ []
 numbers_of y (PageMark.Arc x1 x2 from to bulge) =
     (x1 +ℤ quarter x1 x2) ∷ ((y +ℤ from) +ℤ bulge) ∷ (x2 -ℤ quarter x1 x2) ∷ ((y +ℤ to) +ℤ bulge) ∷ x2 ∷ (y +ℤ to) ∷ x1
     ∷ (y +ℤ from) ∷ []

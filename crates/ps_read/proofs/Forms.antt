@@ -5,6 +5,7 @@ use Rattle.std.proofs.lemmas.Fmt.{decimal_digit}
 use Rattle.std.proofs.lemmas.Int.{ints}
 use Rattle.std.specs.List.{flat_map, list_all}
 use mathlib.Core.List.{append_assoc}
+use Rattle.mus_units.specs.Distances.{top_line, fourth_line, third_line, second_line}
 use Rattle.{mus_units.specs.declared.glyph.Size.{Size}, glyph_paths.specs.Procedure.{numbers}}
 use Rattle.ps_text.specs.Document.{title_line}
 use Rattle.ps_text.specs.Fields.{shown, in_parentheses}
@@ -32,7 +33,7 @@ size_is_field Size.Big = refl
 
 abbrev pub rules_numbers : ℕ → ℤ → List ℤ
 rules_numbers w y =
-    pos w ∷ pos 2000 ∷ pos w ∷ pos 1500 ∷ pos w ∷ pos 1000 ∷ pos w ∷ pos 500 ∷ pos w ∷ pos 0 ∷ pos 0 ∷ y ∷ []
+    pos w ∷ pos top_line ∷ pos w ∷ pos fourth_line ∷ pos w ∷ pos third_line ∷ pos w ∷ pos second_line ∷ pos w ∷ pos 0 ∷ pos 0 ∷ y ∷ []
 
 abbrev pub after_bottom : ℕ → List ℕ
 after_bottom s = percent s ++ (32 ∷ (percent s ++ page_end))

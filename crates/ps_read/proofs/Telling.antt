@@ -7,6 +7,7 @@ use Rattle.std.proofs.lemmas.List.Elements.{All-push, All-nil}
 use Rattle.std.specs.Prelude.{⊤}
 use mathlib.Core.List.{append_assoc, append-nil}
 use Rattle.{glyph_paths.specs.Names.{glyphs_in_order}}
+use Rattle.mus_units.specs.Distances.{top_line}
 use Rattle.ps_text.specs.Document.{numbered, mark_text, marks_text, rules_line, staff_line, staff_text, last_base}
 use Rattle.ps_text.specs.Document.{join_line, join_text, system_line, system_text, title_text, tune_text, item_text}
 use Rattle.ps_text.specs.Document.{items_text, heading_line, heading_text, closing, document_page, count_line, trailer}
@@ -59,11 +60,11 @@ record IsOpenPage (p : OpenPage) : Type 0 where
   items : All IsItem p.items
   order : InOrder p.items
 
--- staves are joined by a line whose top is 2000 above the first, or there is none yet
+-- staves are joined by a line whose top is at the top line of the first, or there is none yet
 abbrev IsJoinedBy : Option Joined → List Staff → Type 0
 IsJoinedBy None ss = ss ≡ []
 IsJoinedBy (Some j) [] = IsNumber j.top
-IsJoinedBy (Some j) (s ∷ ss) = ((s.y +ℤ pos 2000) ≡ j.top) × IsNumber j.top
+IsJoinedBy (Some j) (s ∷ ss) = ((s.y +ℤ pos top_line) ≡ j.top) × IsNumber j.top
 
 record IsOpenSystem (o : OpenSystem) : Type 0 where
   page : IsOpenPage o.page

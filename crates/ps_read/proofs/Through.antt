@@ -6,6 +6,7 @@ use Rattle.std.proofs.lemmas.List.Elements.{All-head, All-tail}
 use Rattle.std.specs.Prelude.{⊤}
 use mathlib.Core.List.{append_assoc, append-nil}
 use Rattle.{glyph_paths.specs.Names.{glyphs_in_order}}
+use Rattle.mus_units.specs.Distances.{top_line}
 use Rattle.ps_text.specs.Document.{numbered, mark_text, marks_text, staff_line, staff_text, last_base, join_text}
 use Rattle.ps_text.specs.Document.{system_text, tune_text, title_text, item_text, items_text, heading_text, closing}
 use Rattle.ps_text.specs.Document.{document_page, count_line, trailer, document, SpellsSheet}
@@ -250,7 +251,7 @@ system_way p a b (s ∷ []) h =
       (tt, refl),
     )
 system_way p a b (s ∷ u ∷ us) h =
-    let top = s.y +ℤ pos 2000 in
+    let top = s.y +ℤ pos top_line in
     let foot = last_base u us in
     let j : Joined = record { top = top; foot = foot } in
     let o = joined_system p a b j [] in

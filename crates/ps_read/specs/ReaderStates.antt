@@ -1,6 +1,7 @@
 -- Which line may follow which: the lines of a document, each judged by the lines before it alone.
 use Rattle.std.specs.Prelude.{◌≡◌, ℕ, ℤ, pos, ◌+◌, ◌<◌, ◌≤◌, ◌^◌, ◌+ℤ◌, List, [], ◌∷◌, ◌++◌, length, codes, Option}
 use Rattle.std.specs.Prelude.{Some, None, IsSome, ⊤}
+use Rattle.mus_units.specs.Distances.{top_line}
 use Rattle.ps_text.specs.Document.{count_line}
 use Rattle.ps_text.specs.Prolog.{procedures, glyph_lines, last_text}
 use Rattle.ps_text.specs.Range.{IsNumber, IsPageMark, IsTitle, IsOrdinal, IsFrame}
@@ -46,9 +47,9 @@ open_system p a b = record { page = p; a = a; b = b; join = None; staves = [] }
 abbrev pub system_ended : OpenSystem → Staff → OpenPage
 system_ended o s = with_item o.page (Item.System o.a o.b (o.staves ++ s ∷ []))
 
--- the first staff that a line joins is 2000 below the top of that line
+-- the first staff that a line joins has its top line at the top of that line
 abbrev pub IsUnderTop : Option Joined → List Staff → ℤ → Type 0
-IsUnderTop (Some j) [] y = (y +ℤ pos 2000) ≡ j.top
+IsUnderTop (Some j) [] y = (y +ℤ pos top_line) ≡ j.top
 IsUnderTop j staves y = ⊤
 
 -- a system may end with a staff at y if no line joins its staves, or if it has another staff and y is the foot of

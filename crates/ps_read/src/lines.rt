@@ -1,5 +1,6 @@
 ghost use Rattle.std.specs.Prelude.{◌≡◌, ℕ, ℤ, pos, ◌+◌, ◌<◌, ◌≤◌, ◌^◌, List, [], ◌∷◌, Some, MatchOption, IfOk, IfSome};
 ghost use Rattle.std.specs.Prelude.{Decides};
+ghost use Rattle.mus_units.specs.Distances.{fourth_line, second_line, third_line, top_line};
 ghost use Rattle.mus_units.specs.declared.glyph.Size.{Size};
 ghost use Rattle.ps_text.specs.Document.{title_line, join_line, rules_line, heading_line, staff_line, count_line};
 ghost use Rattle.ps_text.specs.Names.{size_name};
@@ -190,7 +191,7 @@ fn rules_of(zs: &[i64]) -> Option<Rules>
     ensures right { (w : ℕ) (y : ℤ)
         → 1 ≤ w → w ≤ 2 ^ 31
         → zs.now
-        ≡ pos w ∷ pos 2000 ∷ pos w ∷ pos 1500 ∷ pos w ∷ pos 1000 ∷ pos w ∷ pos 500 ∷ pos w ∷ pos 0 ∷ pos 0 ∷ y ∷ []
+        ≡ pos w ∷ pos top_line ∷ pos w ∷ pos fourth_line ∷ pos w ∷ pos third_line ∷ pos w ∷ pos second_line ∷ pos w ∷ pos 0 ∷ pos 0 ∷ y ∷ []
         → result ≡ Some (rules_of w y) }
     ensures range { IfSome result (λ r. (1 ≤ r.width) × (r.width ≤ 2 ^ 31)) }
 {

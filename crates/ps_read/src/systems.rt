@@ -10,6 +10,7 @@ use crate::pages::item_line;
 use crate::state::{
     Joined, OpenSystem, ReaderState, staff_with_mark, system_ended, system_with_staff,
 };
+use mus_units::distances::TOP_LINE;
 use mus_units::{Memory, Row};
 use ps_text::{PageMark, Staff, read_op};
 use std::alloc::Global;
@@ -62,7 +63,7 @@ fn is_under_top(join: Option<Joined>, staves: &[Staff], y: i64) -> bool
     ensures { Decides result (IsUnderTop join staves.now y) }
 {
     match (join, staves) {
-        (Some(join), []) => y + 2000 == join.top,
+        (Some(join), []) => y + i64::from(TOP_LINE) == join.top,
         _ => true,
     }
 }

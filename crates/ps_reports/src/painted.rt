@@ -31,10 +31,10 @@ pub fn put_spaced(out: &mut Text, numbers: &[i64]) -> Result<(), Memory>
     Ok(())
 }
 
-fn put_curve(out: &mut Text, a: i64, b: i64, c: i64, d: i64, x: i64, y: i64) -> Result<(), Memory>
-    ensures { OnOk result (out.new ≡ out.old ++ spaced (a ∷ b ∷ c ∷ d ∷ x ∷ y ∷ []) ++ codes " c") }
+fn put_curve(out: &mut Text, points: &[i64]) -> Result<(), Memory>
+    ensures { OnOk result (out.new ≡ out.old ++ spaced points.now ++ codes " c") }
 {
-    put_spaced(out, &[a, b, c, d, x, y])?;
+    put_spaced(out, points)?;
     out.append(b" c")
 }
 
@@ -51,7 +51,7 @@ fn put_seg(out: &mut Text, piece: Seg) -> Result<(), Memory>
             put_spaced(out, &[x, y])?;
             out.append(b" l")
         }
-        Seg::Curve(a, b, c, d, x, y) => put_curve(out, a, b, c, d, x, y),
+        Seg::Curve(a, b, c, d, x, y) => put_curve(out, &[a, b, c, d, x, y]),
         Seg::Close => out.append(b" z"),
     }
 }

@@ -1,5 +1,6 @@
 -- The text of items, pages and documents, each line ended by an LF.
 use Rattle.std.specs.{Prelude.{◌≡◌, ℕ, ℤ, pos, ◌+◌, ◌+ℤ◌, List, [], ◌∷◌, ◌++◌, length, codes, decimal}, List.flat_map}
+use Rattle.mus_units.specs.Distances.{top_line, fourth_line, third_line, second_line}
 use Rattle.mus_units.specs.declared.glyph.Size.{Size}
 use Rattle.glyph_paths.specs.Characters.{line_end, space}
 use Rattle.glyph_paths.specs.Procedure.{numbers}
@@ -31,7 +32,7 @@ marks_text y ms = flat_map (mark_text y) ms
 unfoldable pub rules_line : ℕ → ℤ → List ℕ
 rules_line width y =
     let w = pos width in
-    numbers (w ∷ pos 2000 ∷ w ∷ pos 1500 ∷ w ∷ pos 1000 ∷ w ∷ pos 500 ∷ w ∷ pos 0 ∷ pos 0 ∷ y ∷ []) ++ codes "sf"
+    numbers (w ∷ pos top_line ∷ w ∷ pos fourth_line ∷ w ∷ pos third_line ∷ w ∷ pos second_line ∷ w ∷ pos 0 ∷ pos 0 ∷ y ∷ []) ++ codes "sf"
 
 unfoldable pub staff_line : ℕ → List ℕ
 staff_line k = codes "% staff " ++ decimal k
@@ -49,11 +50,11 @@ last_base s (t ∷ rest) = last_base t rest
 unfoldable pub join_line : ℤ → ℤ → List ℕ
 join_line top foot = numbers (pos 0 ∷ top ∷ pos 0 ∷ foot ∷ []) ++ codes "vl"
 
--- two or more staves are joined, from 2000 above the first base to the last
+-- two or more staves are joined, from the top line of the first to the base of the last
 abbrev pub join_text : List Staff → List ℕ
 join_text [] = []
 join_text (s ∷ []) = []
-join_text (s ∷ t ∷ rest) = join_line (s.y +ℤ pos 2000) (last_base t rest) ++ line_end ∷ []
+join_text (s ∷ t ∷ rest) = join_line (s.y +ℤ pos top_line) (last_base t rest) ++ line_end ∷ []
 
 unfoldable pub system_line : ℕ → ℕ → List ℕ
 system_line a b = codes "% system " ++ decimal a ++ space ∷ decimal b

@@ -1,5 +1,6 @@
 -- The line that spells a mark on a staff at y, without the LF that ends it.
 use Rattle.std.specs.Prelude.{ℕ, ℤ, pos, ◌+ℤ◌, ◌-ℤ◌, int_div, List, [], ◌∷◌, ◌++◌, codes}
+use Rattle.mus_units.specs.Distances.{beam_thickness}
 use Rattle.mus_units.specs.declared.glyph.Glyph.{Glyph}
 use Rattle.mus_units.specs.declared.glyph.Size.{Size}
 use Rattle.mus_units.specs.declared.glyph.Way.{Way}
@@ -28,9 +29,9 @@ ends_of y from to rise =
 unfoldable pub points : ℤ → ℤ → ℤ → ℤ → Ends → List ℕ
 points p q x1 x2 e = numbers (p ∷ e.left_above ∷ q ∷ e.right_above ∷ x2 ∷ e.right ∷ x1 ∷ e.left ∷ [])
 
--- the four corners of a beam 250 thick
+-- the four corners of a beam
 unfoldable pub beam_line : Way → ℤ → ℤ → ℤ → ℤ → ℤ → List ℕ
-beam_line way x1 x2 from to y = points x1 x2 x1 x2 (ends_of y from to (pos 250)) ++ way_name way
+beam_line way x1 x2 from to y = points x1 x2 x1 x2 (ends_of y from to (pos beam_thickness)) ++ way_name way
 
 -- a quarter of the way from x1 to x2
 abbrev pub quarter : ℤ → ℤ → ℤ

@@ -2,6 +2,7 @@
 use Rattle.std.specs.Prelude.{ℕ, ℤ, pos, negsuc, ◌^◌, ◌<◌, ◌≤◌, ◌+ℤ◌, ◌<ℤ◌, ◌≤ℤ◌, Bool, ◌&&◌, ◌||◌, nat_le, IsTrue}
 use Rattle.std.specs.Prelude.{List, [], ◌∷◌, length, All, ⊤}
 use Rattle.std.specs.List.{list_all}
+use Rattle.mus_units.specs.Distances.{beam_thickness, top_line}
 use Rattle.ps_text.specs.declared.marks.PageMark.{PageMark}
 use Rattle.ps_text.specs.declared.sheet.Frame.{Frame}
 use Rattle.ps_text.specs.declared.sheet.Staff.{Staff}
@@ -66,12 +67,12 @@ pub record IsSpan (y x1 x2 from to rise : ℤ) : Type 0 where
   pub left : IsArcEnd y from rise
   pub right : IsArcEnd y to rise
 
--- a mark that may be on a staff at y; a beam is 250 thick
+-- a mark that may be on a staff at y
 abbrev pub IsPageMark : ℤ → PageMark → Type 0
 IsPageMark y (PageMark.Glyph glyph x dx dy) = IsPlacedMark y x dx dy
 IsPageMark y (PageMark.Words size x dx dy words) = IsPlacedMark y x dx dy × IsWords words
 IsPageMark y (PageMark.Stem x dx from to) = IsStem y x dx from to
-IsPageMark y (PageMark.Beam way x1 x2 from to) = IsSpan y x1 x2 from to (pos 250)
+IsPageMark y (PageMark.Beam way x1 x2 from to) = IsSpan y x1 x2 from to (pos beam_thickness)
 IsPageMark y (PageMark.Arc x1 x2 from to bulge) = IsSpan y x1 x2 from to bulge
 
 -- a staff has lines of 1 to 2^31, and marks that may be on it
@@ -81,11 +82,11 @@ pub record IsStaff (s : Staff) : Type 0 where
   pub wide : s.width ≤ 2 ^ 31
   pub drawn : All (IsPageMark s.y) s.marks
 
--- the line that joins two or more staves begins 2000 above the first
+-- the line that joins two or more staves begins at the top line of the first
 abbrev pub IsJoined : List Staff → Type 0
 IsJoined [] = ⊤
 IsJoined (s ∷ []) = ⊤
-IsJoined (s ∷ t ∷ rest) = IsNumber (s.y +ℤ pos 2000)
+IsJoined (s ∷ t ∷ rest) = IsNumber (s.y +ℤ pos top_line)
 
 -- a system of the measures a to b - 1, on at least one staff
 pub record IsSystemItem (a b : ℕ) (staves : List Staff) : Type 0 where

@@ -1,4 +1,5 @@
 ghost use Rattle.std.specs.Prelude.{◌≡◌, ◌++◌, ◌↔◌, ◌≤ℤ◌, ◌+ℤ◌, ◌-ℤ◌, pos, IfOk, OnOk, IsTrue, MatchOption, length};
+ghost use Rattle.mus_units.specs.Distances.{beam_thickness};
 ghost use Rattle.ps_text.specs.Line.{mark_line, points, ends_of, quarter, beam_line, arc_line};
 ghost use Rattle.ps_text.specs.Range.{IsPageMark, IsSpan, IsStretch};
 
@@ -7,6 +8,7 @@ use crate::marks::PageMark;
 use crate::names::{size_name_of, way_name_of};
 use crate::range::{is_placed, is_span, is_stem, is_words_mark, moved};
 use glyph_paths::name_of;
+use mus_units::distances::BEAM_THICKNESS;
 use mus_units::{Memory, Text, Way};
 use std::alloc::Global;
 
@@ -66,10 +68,10 @@ fn put_beam(
     to: i64,
     y: i64,
 ) -> Result<(), Memory>
-    requires { IsSpan y x1 x2 from to (pos 250) }
+    requires { IsSpan y x1 x2 from to (pos beam_thickness) }
     ensures { OnOk result (out.new ≡ out.old ++ beam_line way x1 x2 from to y) }
 {
-    let ends = ends_of(y, x1, x2, from, to, 250);
+    let ends = ends_of(y, x1, x2, from, to, BEAM_THICKNESS);
     put_points(out, x1, x2, x1, x2, &ends, way_name_of(way))
 }
 
@@ -197,7 +199,7 @@ pub fn is_page_mark(y: i64, m: &PageMark) -> bool
             from,
             to,
             ..
-        } => is_span(y, *x1, *x2, i64::from(*from), i64::from(*to), 250),
+        } => is_span(y, *x1, *x2, i64::from(*from), i64::from(*to), BEAM_THICKNESS),
         PageMark::Arc {
             x1,
             x2,

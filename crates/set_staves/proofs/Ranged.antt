@@ -2,6 +2,7 @@
 use Rattle.std.proofs.Common.{◌≡◌, ℕ, ◌^◌, ◌<◌, ◌≤◌, ℤ, pos, ◌+ℤ◌, List, [], ◌∷◌, length, All, sym, subst, arith}
 use Rattle.std.proofs.lemmas.Int.{ints}
 use Rattle.std.proofs.lemmas.List.Elements.{All-head}
+use Rattle.mus_units.specs.Distances.{top_line}
 use Rattle.mus_laid.specs.declared.laid.StaffMarks.{StaffMarks}
 use Rattle.ps_text.specs.Range.{IsNumber, IsStaff, IsJoined, IsSystemItem}
 use Rattle.ps_text.specs.declared.sheet.Staff.{Staff}
@@ -9,7 +10,7 @@ use Rattle.set_staves.specs.Drawn.{IsBase}
 use Rattle.set_staves.specs.Marks.{staves_at}
 
 -- the line that joins staves begins on the page
-above : (top base : ℤ) → IsBase top base → IsNumber ((top +ℤ base) +ℤ pos 2000)
+above : (top base : ℤ) → IsBase top base → IsNumber ((top +ℤ base) +ℤ pos top_line)
 above top base b = record { low = omega (arith, ints, b.low, b.high); high = omega (arith, ints, b.low, b.high) }
 
 joined : (width : ℕ) (at : List ℤ) (top : ℤ) (staves : List StaffMarks) (bases : List ℤ)

@@ -1,5 +1,6 @@
 use Rattle.std.proofs.Common.{◌∙◌, codes, lit≤, refl}
 use Rattle.{ps_text.specs.Document.{rules_line}, ps_read.proofs.Forms.{rules_numbers, small_number}}
+use Rattle.mus_units.specs.Distances.{top_line, fourth_line, third_line, second_line}
 use Rattle.ps_read.proofs.lines.scan_rules.Goals as goal
 
 pub returns-clause-right : goal.returns-clause-right
@@ -9,12 +10,12 @@ returns-clause-right c w y some wide number e =
     let k = c.in_ok-zs.ensures (rules_numbers w y) (codes "sf") (
       n,
       (
-        small_number 2000 (lit≤ tt),
+        small_number top_line (lit≤ tt),
         (
           n,
           (
-            small_number 1500 (lit≤ tt),
-            (n, (small_number 1000 (lit≤ tt), (n, (small_number 500 (lit≤ tt), (n, (zero, (zero, (number, tt)))))))),
+            small_number fourth_line (lit≤ tt),
+            (n, (small_number third_line (lit≤ tt), (n, (small_number second_line (lit≤ tt), (n, (zero, (zero, (number, tt)))))))),
           ),
         ),
       ),
