@@ -7,7 +7,7 @@ use crate::drawing::{cut_dy, put_glyph};
 use crate::kinds::deco_glyph;
 use crate::notes::{head_dy, highest_dy, put_heads_of};
 use crate::rests::put_rest;
-use crate::stems::{BeamLevels, put_stem_of};
+use crate::stems::{StemEnd, put_stem_of};
 use mus_laid::{MarkPen, TOP_LINE};
 use mus_score::Event;
 use mus_stems::StemPlan;
@@ -60,23 +60,23 @@ pub fn put_note(
     raise: i32,
     event: &Event,
     plan: &StemPlan,
-    levels: BeamLevels,
+    end: StemEnd,
 ) -> Result<(), Memory>
     ensures { OnOk result
-        (pen.new ≡ inked pen.old (note_marks clef raise event.now plan.now levels.before levels.after)) }
+        (pen.new ≡ inked pen.old (note_marks clef raise event.now (with_end plan.now end.to) end.before end.after)) }
 {
     let heads = event.heads.as_slice();
     match heads {
         [] => put_rest(pen, raise, event.look, event.value, plan.flags)?,
         heads => {
             put_heads_of(pen, clef, event.value.base, heads, plan)?;
-            put_stem_of(pen, plan, levels)?;
+            put_stem_of(pen, plan, end)?;
         }
     }
     match event.decos.as_slice() {
         [] => Ok(()),
         decos => {
-            let top = top_of(clef, heads, plan, plan.to);
+            let top = top_of(clef, heads, plan, end.to);
             put_decos(pen, first_deco(top), decos)
         }
     }

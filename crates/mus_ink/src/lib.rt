@@ -18,4 +18,4 @@ pub use bars::put_bar;
 pub use changes::{put_change, put_head};
 pub use decos::{put_note, top_of};
 pub use graces::{Group, group_of, put_grace, put_grace_beam};
-pub use stems::BeamLevels;
+pub use stems::StemEnd;

@@ -1,5 +1,6 @@
 ghost use Rattle.std.specs.Prelude.{◌≡◌, ◌-◌, ◌∷◌, [], OnOk};
 ghost use Rattle.mus_ink.specs.Stems.{flag_dy, flag_marks, lower_edge, stem_dx, stem_marks, stub_marks};
+ghost use Rattle.mus_stems.specs.Slope.{with_end};
 ghost use Rattle.mus_laid.specs.Ranked.{inked};
 
 use crate::distances::{LEVEL_STEP, STEM_SIDE};
@@ -71,20 +72,20 @@ fn put_stubs(
     Ok(())
 }
 
-/// The levels of the events before and after an event in its beam, 0 if there is none.
+/// Where the stem of an event ends, and the levels of the events before and after it in its beam, 0 if there is none.
 #[derive(Clone, Copy, PartialEq, Eq)]
-pub struct BeamLevels {
+pub struct StemEnd {
+    pub to: i32,
     pub before: u8,
     pub after: u8,
 }
 
-/// Draws the stem of an event, and its flags or its stubs.
+/// Draws the stem of an event, which ends there, and its flags or its stubs.
 #[tactic(auto, unfolding(crate::specs::Stems::stem_marks, crate::specs::Stems::flags_or_stubs))]
-pub fn put_stem_of(pen: &mut MarkPen, plan: &StemPlan, levels: BeamLevels) -> Result<(), Memory>
-    ensures { OnOk result (pen.new ≡ inked pen.old (stem_marks plan.now levels.before levels.after)) }
+pub fn put_stem_of(pen: &mut MarkPen, plan: &StemPlan, end: StemEnd) -> Result<(), Memory>
+    ensures { OnOk result (pen.new ≡ inked pen.old (stem_marks (with_end plan.now end.to) end.before end.after)) }
 {
-    let BeamLevels { before, after } = levels;
-    let to = plan.to;
+    let StemEnd { to, before, after } = end;
     if plan.has {
         put_stem(pen, stem_dx(plan.up), plan.from, to)?;
     }

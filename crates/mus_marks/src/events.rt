@@ -14,7 +14,7 @@ ghost use Rattle.mus_marks.specs.Places.{HasVerses};
 
 use crate::silence::is_silent;
 use mus_drawn::{DrawnEvent, raise_of};
-use mus_ink::{BeamLevels, Group, group_of, put_change, put_grace, put_note};
+use mus_ink::{StemEnd, Group, group_of, put_change, put_grace, put_note};
 use mus_laid::MarkPen;
 use mus_onsets::{Class, ColumnKey};
 use mus_score::{Changes, Event, Flat};
@@ -176,7 +176,7 @@ fn draw_note(pen: &mut MarkPen, before: u8, after: u8, e: &DrawnEvent<'_>) -> Re
         raise,
         event,
         plan,
-        BeamLevels { before, after },
+        StemEnd { to: plan.to, before, after },
     )
 }
 
