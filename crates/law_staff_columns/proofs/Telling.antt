@@ -4,6 +4,7 @@ use Rattle.std.proofs.Common.{not, ◌&&◌, ◌||◌, List, [], ◌∷◌, ◌+
 use Rattle.std.proofs.Common.{drop, Option, arith}
 use Rattle.std.proofs.lemmas.List.{map-append, length-drop, length-take, take-append-drop}
 use Rattle.std.proofs.lemmas.List.Elements.{All-contains, All-from_recursion, All-head, All-tail}
+use Rattle.std.proofs.lemmas.List.Elements.{recursion_from_All}
 use Rattle.std.proofs.lemmas.List.Folds.{list_any-append}
 use Rattle.std.specs.List.{All, AllByRecursion, Contains, flat_map, list_any, slice_range}
 use Rattle.mus_units.specs.declared.{key.Sign.Sign, note.{Bar.Bar, Head.Head}, pitch.{Clef.Clef}}
@@ -39,12 +40,11 @@ use Rattle.mus_slots.specs.Staff.{bare_laid, bridges_at, column_at, place_outsid
 use Rattle.mus_slots.specs.Voice.{change_slots, columns_slots, event_slots, events_slots, first_slots, grace_slots}
 use Rattle.mus_slots.specs.Voice.{keys_of, levels_after, levels_in, measures_slots, meter_shown, slot, slot_if}
 use Rattle.mus_slots.specs.Voice.{slots_of_voices, voice_slots}
+use Rattle.mus_slots.specs.Words.{IsOrdered}
 use Rattle.mus_slots.proofs.Filled.{no_marks}
 use Rattle.mus_marks.specs.Staff.{staff_marks, staff_over, verses_on}
 use Rattle.mus_marks.specs.Tilt.{sloped_over, voice_tilted}
-use Rattle.mus_marks.proofs.Columns.{slots_inside, slots_rise}
-use Rattle.mus_marks.proofs.Placed.{IsReady, all_ready}
-use Rattle.mus_marks.proofs.Tilted.{ended_slotted}
+use Rattle.mus_marks.proofs.SystemSlots.{tilted_ordered}
 use Rattle.ps_heard.specs.declared.column.HeardColumn.{HeardColumn}
 use Rattle.ps_heard.specs.declared.column.HeardGlyph.{HeardGlyph}
 use Rattle.ps_heard.specs.declared.column.Role.{Role}
@@ -311,16 +311,16 @@ staff_known s v keys at a b good has alone rise within are =
     let drawn = voice_drawn s v keys at a b good has alone within are in
     let tied = subst (λ es. AllTied keys a b ties prev (all_placed a es)) (sym (take-append-drop n ds))
     (ties_stand s v keys a b w refl places drawn) in
-    let ready = All-contains (λ v. IsReady keys lengths a b (drawn_voice v)) s.voices v
-    (All-from_recursion (λ v. IsReady keys lengths a b (drawn_voice v)) s.voices
-    (each_mapped (IsReady keys lengths a b) drawn_voice s.voices
-    (all_ready s (timeline_of s) a b keys refl good rise within are))) has in
-    let slotted = ended_slotted keys lengths a b (sloped_over keys at a (slice_range d.measures a b)) d ready.some
-    ready.seated ready.fits ready.slotted in
+    let IsTiltable : DrawnVoice → Type 0 = λ d. IsOrdered keys lengths a b (voice_tilted keys at a b d) in
+    let ordered = All-contains (λ v. IsTiltable (drawn_voice v)) s.voices v
+    (All-from_recursion (λ v. IsTiltable (drawn_voice v)) s.voices
+    (each_mapped IsTiltable drawn_voice s.voices
+    (recursion_from_All IsTiltable (map drawn_voice s.voices)
+    (tilted_ordered s (timeline_of s) a b keys refl good rise within are at)))) has 0 in
     let marks = alone_marks keys lengths a b w in
     ap (λ t. columns_heard (ranked_columns (length keys) t)) marks.1
     ∙ system_known keys lengths marks.0 a b v.seat v.first _ prev (take n xs) (take n ds) (drop n ds) bridges
     (ap is_lower alone) (omega (arith, long, rise, within, length-drop a v.measures, length-take n xs))
     (omega (arith, rise, length-take n ds))
     (measures_prefix keys a b n a _ xs ds (measures_after keys a b a 0 a now v.measures w.measures (omega arith) drawn))
-    tied are.rise (head_least lengths a b keys places) (slots_rise w slotted 0) (slots_inside w slotted 0)
+    tied are.rise (head_least lengths a b keys places) ordered.0 ordered.1

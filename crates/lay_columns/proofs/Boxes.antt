@@ -24,12 +24,11 @@ use Rattle.mus_slots.specs.declared.slots.Slot.{Slot}
 use Rattle.mus_slots.specs.declared.slots.VoiceSlots.{VoiceSlots}
 use Rattle.mus_slots.specs.declared.slots.Written.{Written}
 use Rattle.mus_slots.specs.Staff.{all_slots, bare_laid, bridges_at, column_at, column_marks, column_slots, place_after}
-use Rattle.mus_slots.specs.Staff.{place_outside, staff_laid, written_marks}
+use Rattle.mus_slots.specs.Staff.{place_outside, slot_ink, staff_laid, written_marks}
 use Rattle.mus_slots.proofs.ByKey.{at, laid_at_key, once, rank_same}
-use Rattle.mus_marks.specs.Events.{no_texts, text_place}
 use Rattle.lay_reaches.specs.Lanes.{lane_number}
 use Rattle.lay_reaches.specs.Reaches.{box_at, boxes_at, is_lane_number}
-use Rattle.lay_columns.specs.Measures.{fixed_room, slot_ink}
+use Rattle.lay_columns.specs.Measures.{fixed_place}
 use Rattle.mus_laid.specs.declared.laid.Lane.TheVariants as lanes
 
 -- the box of ink in a lane, in whichever column it is
@@ -39,8 +38,11 @@ ink_box lane d = box_at 0 lane (drawn_at 0 d)
 abbrev pub ink_boxes : ℕ → List LaneInk → List Sides
 ink_boxes lane ds = filter_map (ink_box lane) ds
 
+abbrev pub placed_ink : Slot → List LaneInk
+placed_ink = slot_ink (Some fixed_place)
+
 abbrev pub slots_boxes : ℕ → List Slot → List Sides
-slots_boxes lane slots = ink_boxes lane (flat_map slot_ink slots)
+slots_boxes lane slots = ink_boxes lane (flat_map placed_ink slots)
 
 -- ---- by key
 one_box : (r q lane : ℕ) (d : LaneInk) → box_at r lane (drawn_at q d) ≡ (if r == q then ink_box lane d else None)
@@ -154,15 +156,15 @@ module _ (lane : ℕ) where
   column_same : (p : TextPlace) (ss : List Slot) → ink_boxes lane (column_marks p ss) ≡ slots_boxes lane ss
   column_same p [] = refl
   column_same p (s ∷ ss) =
-      both (s.drawn ++ written_marks p s.written) (slot_ink s) (column_marks (place_after p s.written) ss)
-      (flat_map slot_ink ss)
-      (both s.drawn s.drawn _ _ refl (words_same p (text_place fixed_room no_texts) s.written))
+      both (slot_ink (Some p) s) (placed_ink s) (column_marks (place_after p s.written) ss)
+      (flat_map placed_ink ss)
+      (both s.drawn s.drawn _ _ refl (words_same p fixed_place s.written))
       (column_same (place_after p s.written) ss)
 
   pub slots_both : (xs ys : List Slot) → slots_boxes lane (xs ++ ys) ≡ slots_boxes lane xs ++ slots_boxes lane ys
   slots_both xs ys =
-      ap (ink_boxes lane) (flat_map-append slot_ink xs ys)
-      ∙ filter_map-append (ink_box lane) (flat_map slot_ink xs) (flat_map slot_ink ys)
+      ap (ink_boxes lane) (flat_map-append placed_ink xs ys)
+      ∙ filter_map-append (ink_box lane) (flat_map placed_ink xs) (flat_map placed_ink ys)
 
 -- ---- a staff
 bridge_none : (keys : List ColumnKey) (r lane : ℕ) (b : Bridge) → box_at r lane (bridge_at keys b) ≡ None

@@ -1,6 +1,6 @@
 -- Facts of the columns of one measure: they belong to it, the last is its bar, and texts are short.
-use Rattle.std.proofs.Common.{◌≡◌, ◌∙◌, ℕ, zero, suc, ◌+◌, ◌-◌, ◌<◌, ◌≤◌, ◌⊎◌, inl, inr, Bool, true, false, List, []}
-use Rattle.std.proofs.Common.{◌∷◌, length, map, drop, Some, Ok, Err, IfOk, Result, refl, sym, ap, subst, arith}
+use Rattle.std.proofs.Common.{◌≡◌, ◌∙◌, ℕ, zero, suc, ◌+◌, ◌<◌, ◌≤◌, ◌⊎◌, inl, inr, Bool, true, false, List, []}
+use Rattle.std.proofs.Common.{◌∷◌, length, map, Some, Ok, Err, IfOk, Result, refl, sym, ap, subst, arith}
 use Rattle.std.proofs.lemmas.Bool.Decides.{nat_tests}
 use Rattle.std.proofs.lemmas.List.{length-map}
 use Rattle.std.proofs.lemmas.List.Elements.{All-from_recursion, Contains-append_left, Contains-append_right}
@@ -20,27 +20,24 @@ use Rattle.mus_drawn.specs.declared.drawn.DrawnVoice.{DrawnVoice}
 use Rattle.mus_drawn.specs.Drawn.{drawn_voice}
 use Rattle.mus_laid.specs.declared.laid.Laid.{Laid}
 use Rattle.mus_laid.specs.Boxes.{AreGoodMarks}
-use Rattle.mus_stems.proofs.RunLaws.{all_append, all_drop, all_take}
+use Rattle.mus_stems.proofs.RunLaws.{all_append}
 use Rattle.mus_time.specs.Columns.{events_columns, front_columns, keys_called, measures_columns, range_columns}
 use Rattle.mus_time.specs.Columns.{staff_columns}
 use Rattle.mus_time.proofs.Called.{called_places, called_same}
 use Rattle.mus_time.proofs.Counts.{voice_count}
+use Rattle.mus_slots.proofs.Marks.{FitsVoice, range_laid}
 use Rattle.mus_slots.proofs.Ranges.{slice_long}
-use Rattle.mus_marks.specs.Events.{measures_marks}
-use Rattle.mus_marks.specs.Staff.{columns_part}
 use Rattle.mus_marks.specs.System.{drawn_staves}
 use Rattle.mus_marks.proofs.Fitting.{staves_fit}
 use Rattle.mus_marks.proofs.Inside.{here, none_there}
 use Rattle.mus_marks.proofs.OneList.{first_or}
-use Rattle.mus_marks.proofs.Parts.{columns_all, Fits, FitsMeasure, FitsVoice, measures_all}
 use Rattle.mus_marks.proofs.GoodMarks.{goods, IsGood}
-use Rattle.mus_marks.proofs.VoiceSlots.{columns_laid, measures_laid}
 use Rattle.lay_reaches.specs.declared.column.Column.{Column}
 use Rattle.lay_reaches.specs.Columns.{StandsWhereDue}
 use Rattle.lay_reaches.specs.Widened.{HaveGoodMarks}
 use Rattle.lay_reaches.proofs.Facts.{columns_stand}
-use Rattle.lay_columns.specs.Measures.{AreMeasureColumns, EndWithBar, fixed_place, keys_in, measure_part, measure_staff}
-use Rattle.lay_columns.specs.Measures.{parts_from}
+use Rattle.lay_columns.specs.Measures.{AreMeasureColumns, EndWithBar, fixed_place, keys_in, measure_staff}
+use Rattle.lay_columns.specs.Measures.{parts_from, range_part}
 
 -- ---- returned values
 pub ok_through : {X E : Type 0} (P Q : X → Type 0) → ((x : X) → P x → Q x) → (r : Result X E) → IfOk r P → IfOk r Q
@@ -157,50 +154,23 @@ module _ (begins : Bool) (s : Score) (t : Timeline) (m : ℕ) (verses : List ℕ
       (count ∙ sym (length-map (drawn_staves s) (measure_staff begins (keys_in columns) t.lengths m))))
 
 -- ---- texts
--- what a voice has in the columns of a measure, by rank
-abbrev own_laid : Bool → List ColumnKey → List ℕ → ℕ → ℕ → DrawnVoice → List Laid
-own_laid true keys lengths m first v =
-    columns_part keys lengths (Some (fixed_place first)) m v.seat v.first (slice_range v.measures m (m + 1))
-own_laid false keys lengths m first v =
-    measures_marks keys lengths (Some (fixed_place first)) m false (slice_range v.measures m (m + 1))
-
-pub part_laid : (begins : Bool) (keys : List ColumnKey) (lengths : List ℕ) (m first : ℕ) (v : DrawnVoice)
-    → own_laid begins keys lengths m first v ≡ measure_part begins keys lengths m first v
-part_laid true keys lengths m first v =
-    columns_laid keys (Some (fixed_place first)) first refl lengths m v.seat v.first (slice_range v.measures m (m + 1))
-part_laid false keys lengths m first v =
-    measures_laid keys (Some (fixed_place first)) first refl lengths m false (slice_range v.measures m (m + 1))
-
-sliced : (verses m : ℕ) (ds : List DrawnMeasure) → Fits verses ds → Fits verses (slice_range ds m (m + 1))
-sliced verses m ds fits =
-    all_take (FitsMeasure verses) (m + 1 - m) (drop m ds) (all_drop (FitsMeasure verses) m ds fits)
-
 module _ (keys : List ColumnKey) (lengths : List ℕ) (m : ℕ) where
-  part_good : (begins : Bool) (first : ℕ) (v : DrawnVoice)
-      → FitsVoice v → AllByRecursion IsGood (measure_part begins keys lengths m first v)
-  part_good begins first v fits =
-      subst (AllByRecursion IsGood) (part_laid begins keys lengths m first v) (by begins)
-    where
-      last : first + v.verses ≤ first + v.verses
-      last = omega arith
+  abbrev part : Bool → ℕ → DrawnVoice → List Laid
+  part begins first v = range_part begins keys lengths m (m + 1) first v
 
-      by : (begins : Bool) → AllByRecursion IsGood (own_laid begins keys lengths m first v)
-      by true =
-          columns_all (first + v.verses) keys IsGood (goods (first + v.verses) keys) v.verses lengths
-          (Some (fixed_place first)) m v.seat v.first (slice_range v.measures m (m + 1)) last
-          (sliced v.verses m v.measures fits)
-      by false =
-          measures_all (first + v.verses) keys IsGood (goods (first + v.verses) keys) v.verses lengths
-          (Some (fixed_place first)) m false (slice_range v.measures m (m + 1)) last
-          (sliced v.verses m v.measures fits)
+  part_good : (begins : Bool) (first : ℕ) (v : DrawnVoice)
+      → FitsVoice v → AllByRecursion IsGood (part begins first v)
+  part_good begins first v fits =
+      let all = first + v.verses in
+      range_laid all keys IsGood (goods all keys) lengths m (m + 1) begins (Some fixed_place) first v (omega arith) fits
 
   parts_good : (begins : Bool) (first : ℕ) (vs : List DrawnVoice)
       → AllByRecursion FitsVoice vs
-      → AllByRecursion IsGood (parts_from (measure_part begins keys lengths m) first vs)
+      → AllByRecursion IsGood (parts_from (part begins) first vs)
   parts_good begins first [] fits = tt
   parts_good begins first (v ∷ vs) fits =
-      all_append IsGood (measure_part begins keys lengths m first v)
-      (parts_from (measure_part begins keys lengths m) (first + v.verses) vs)
+      all_append IsGood (part begins first v)
+      (parts_from (part begins) (first + v.verses) vs)
       (part_good begins first v fits.0) (parts_good begins (first + v.verses) vs fits.1)
 
   each_good : (begins : Bool) (staves : List (List DrawnVoice))

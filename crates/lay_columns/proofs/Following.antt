@@ -29,6 +29,7 @@ use Rattle.mus_time.proofs.Called.{called_same, keys_placed}
 use Rattle.mus_slots.specs.Staff.{slots_at}
 use Rattle.mus_slots.specs.Voice.{head_slots, range_slots, slot_if}
 use Rattle.mus_slots.proofs.ByKey.{above_differs, at_after}
+use Rattle.mus_slots.proofs.Marks.{all_weaker}
 use Rattle.mus_slots.proofs.Ranges.{BeginBare, StartsBare, columns_bare, voice_bare}
 use Rattle.mus_marks.specs.Events.{changes_nothing}
 use Rattle.mus_marks.specs.System.{drawn_staves, is_drawn_lower}
@@ -38,7 +39,7 @@ use Rattle.mus_marks.proofs.Placed.{IsReady, all_ready}
 use Rattle.lay_reaches.specs.declared.column.Column.{Column}
 use Rattle.lay_columns.specs.Measures.{AreFurther, AreMeasureColumns, begins_plain, first_plain, is_plain, keys_in}
 use Rattle.lay_columns.proofs.HeadKeys.{HasHead, own_keys}
-use Rattle.lay_columns.proofs.Keyed.{SameAt, all_weaker, both_pass, columns_same, measure_keyed}
+use Rattle.lay_columns.proofs.Keyed.{SameAt, both_pass, columns_same, measure_keyed}
 
 -- ---- a voice that begins a measure without a change
 no_mark : (signed : Bool) (ch : Changes) → changes_nothing ch ≡ true → change_has_mark signed ch ≡ false

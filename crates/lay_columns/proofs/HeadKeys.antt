@@ -17,7 +17,7 @@ use Rattle.mus_time.specs.Columns.{range_columns, staff_columns}
 use Rattle.mus_slots.proofs.ByKey.{below_in}
 use Rattle.mus_marks.proofs.Inside.{none_there, there}
 use Rattle.mus_marks.proofs.OneList.{first_or}
-use Rattle.lay_columns.proofs.Keyed.{all_weaker}
+use Rattle.mus_slots.proofs.Marks.{all_weaker}
 use Rattle.lay_columns.proofs.Keys.{either_part, second_part}
 
 not_below : (k : ColumnKey) → is_below k k ≡ true → ⊥

@@ -1,7 +1,7 @@
 -- A system that is one measure longer has the columns of the system, then those of the further measure: at the keys of
 -- each measure it has the slots of the measure alone.
 use Rattle.std.proofs.Common.{◌≡◌, ◌∙◌, ℕ, ◌+◌, ◌<◌, ◌≤◌, ◌==◌, true, false, List, [], ◌∷◌, ◌++◌, length, map, sym, ap}
-use Rattle.std.proofs.Common.{refl, subst, arith}
+use Rattle.std.proofs.Common.{subst, arith}
 use Rattle.std.proofs.lemmas.Bool.Decides.{nat_tests}
 use Rattle.std.proofs.lemmas.List.{append-nil, append_assoc}
 use Rattle.std.proofs.lemmas.List.Elements.{recursion_from_All}
@@ -20,6 +20,7 @@ use Rattle.mus_drawn.specs.Drawn.{drawn_voice}
 use Rattle.mus_slots.specs.Staff.{slots_at}
 use Rattle.mus_slots.specs.Voice.{range_slots}
 use Rattle.mus_slots.proofs.ByKey.{above_differs, at_after, at_before, below_differs}
+use Rattle.mus_slots.proofs.Marks.{all_weaker}
 use Rattle.mus_slots.proofs.Ranges.{voice_more}
 use Rattle.mus_marks.specs.System.{IsCall, drawn_staves, is_drawn_lower}
 use Rattle.mus_marks.proofs.Groups.{grouped_all}
@@ -29,7 +30,7 @@ use Rattle.lay_reaches.specs.Columns.{columns_of}
 use Rattle.lay_reaches.proofs.Keyed.{keyed_append}
 use Rattle.lay_columns.specs.Law.{AreColumnsFrom, MeasuresJoin, one_after_the_other}
 use Rattle.lay_columns.specs.Measures.{AreMeasureColumns, keys_in}
-use Rattle.lay_columns.proofs.Keyed.{IsAmong, IsWhole, SameAt, SlotsOf, all_weaker, both_pass, columns_same, found}
+use Rattle.lay_columns.proofs.Keyed.{IsAmong, IsWhole, SameAt, SlotsOf, both_pass, columns_same, found}
 use Rattle.lay_columns.proofs.Keyed.{measure_among, measure_keyed, key_boxes, key_columns, system_among}
 use Rattle.lay_columns.proofs.Keyed.{system_keyed, voices_whole}
 use Rattle.lay_columns.proofs.Keys.{keys_grow}

@@ -1,7 +1,7 @@
 -- Columns by rank are columns by key: those of a measure and those of a system are determined by the slots that the
 -- voices of each staff have at each key.
-use Rattle.std.proofs.Common.{◌≡◌, ◌∙◌, ℕ, ◌+◌, ◌<◌, ◌≤◌, Bool, true, List, [], ◌∷◌, ◌++◌, length, map, refl, sym, ap}
-use Rattle.std.proofs.Common.{subst, arith}
+use Rattle.std.proofs.Common.{◌≡◌, ◌∙◌, ℕ, ◌+◌, ◌<◌, ◌≤◌, Bool, true, Some, List, [], ◌∷◌, ◌++◌, length, map, refl}
+use Rattle.std.proofs.Common.{sym, ap, subst, arith}
 use Rattle.std.proofs.lemmas.List.Elements.{All-contains, All-from_recursion, filter_map-append, recursion_from_All}
 use Rattle.std.specs.List.{AllByRecursion, Contains, flat_map}
 use Rattle.mus_score.specs.declared.score.Score.{Score}
@@ -12,6 +12,7 @@ use Rattle.mus_onsets.specs.declared.keys.ColumnKey.{ColumnKey}
 use Rattle.mus_onsets.specs.Keys.{AreKeys, called_keys}
 use Rattle.mus_onsets.specs.Order.{Rises, key_rank}
 use Rattle.mus_laid.specs.declared.boxes.Sides.{Sides}
+use Rattle.mus_laid.specs.declared.laid.Laid.{Laid}
 use Rattle.mus_laid.specs.declared.laid.StaffMarks.{StaffMarks}
 use Rattle.mus_drawn.specs.declared.drawn.DrawnVoice.{DrawnVoice}
 use Rattle.mus_drawn.specs.Drawn.{drawn_voice}
@@ -19,9 +20,10 @@ use Rattle.mus_time.specs.Columns.{keys_called, staff_columns}
 use Rattle.mus_time.proofs.Called.{called_same, voices_same}
 use Rattle.mus_time.proofs.Counts.{voice_count}
 use Rattle.mus_slots.specs.declared.slots.Slot.{Slot}
-use Rattle.mus_slots.specs.Staff.{all_slots, column_slots, slots_at}
+use Rattle.mus_slots.specs.Staff.{all_slots, column_slots, slots_at, slots_laid}
 use Rattle.mus_slots.specs.Voice.{keys_of, range_slots, slots_of_voices, voice_slots}
 use Rattle.mus_slots.proofs.KeysOf.{IsSeated, range_keyed}
+use Rattle.mus_slots.proofs.Marks.{all_weaker}
 use Rattle.mus_slots.proofs.Ranges.{slice_long}
 use Rattle.mus_marks.specs.System.{drawn_staves, is_drawn_lower}
 use Rattle.mus_marks.proofs.Groups.{grouped_all}
@@ -32,13 +34,8 @@ use Rattle.lay_reaches.specs.declared.column.Column.{Column}
 use Rattle.lay_reaches.specs.Columns.{columns_of}
 use Rattle.lay_reaches.specs.Reaches.{box_at, boxes_at}
 use Rattle.lay_reaches.proofs.Keyed.{HasBoxes, columns_keyed, keyed_columns, keyed_same}
-use Rattle.lay_columns.specs.Measures.{measure_staff, parts_from, slot_ink, slots_marks}
-use Rattle.lay_columns.proofs.Boxes.{boxes_of, slots_both, slots_boxes, staff_boxes}
-
-pub all_weaker : {X : Type 0} (P Q : X → Type 0)
-    → ((x : X) → P x → Q x) → (xs : List X) → AllByRecursion P xs → AllByRecursion Q xs
-all_weaker P Q f [] h = tt
-all_weaker P Q f (x ∷ xs) h = (f x h.0, all_weaker P Q f xs h.1)
+use Rattle.lay_columns.specs.Measures.{fixed_place, measure_staff, parts_from}
+use Rattle.lay_columns.proofs.Boxes.{boxes_of, placed_ink, slots_both, slots_boxes, staff_boxes}
 
 pub both_pass : {X : Type 0} (P Q : X → Type 0) (xs : List X)
     → AllByRecursion P xs → AllByRecursion Q xs → AllByRecursion (λ x. P x × Q x) xs
@@ -153,17 +150,20 @@ measure_among begins s lengths m keys good within are =
 
 -- ---- a measure
 module _ (keys : List ColumnKey) (slots : SlotsOf) (k : ColumnKey) (lane : ℕ) (has : Contains keys k) where
+  abbrev part : ℕ → DrawnVoice → List Laid
+  part first v = slots_laid keys (Some fixed_place) (slots first v)
+
   parts_boxes : (first : ℕ) (vs : List DrawnVoice)
       → AllByRecursion (IsAmong keys slots) vs
-      → boxes_at (key_rank keys k) lane (parts_from (λ first v. slots_marks keys (slots first v)) first vs)
+      → boxes_at (key_rank keys k) lane (parts_from part first vs)
       ≡ slots_boxes lane (staff_at slots k first vs)
   parts_boxes first [] among = refl
   parts_boxes first (v ∷ vs) among =
       let r = key_rank keys k in
-      let rest = parts_from (λ first v. slots_marks keys (slots first v)) (first + v.verses) vs in
-      filter_map-append (box_at r lane) (slots_marks keys (slots first v)) rest
+      let rest = parts_from part (first + v.verses) vs in
+      filter_map-append (box_at r lane) (part first v) rest
       ∙ ap (λ t. t ++ boxes_at r lane rest)
-      (boxes_of (λ s. s.key) slot_ink keys k lane has (slots first v) (among.0 first))
+      (boxes_of (λ s. s.key) placed_ink keys k lane has (slots first v) (among.0 first))
       ∙ ap (λ t. slots_boxes lane (slots_at k (slots first v)) ++ t) (parts_boxes (first + v.verses) vs among.1)
       ∙ sym (slots_both lane (slots_at k (slots first v)) (staff_at slots k (first + v.verses) vs))
 

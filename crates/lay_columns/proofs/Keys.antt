@@ -11,9 +11,10 @@ use Rattle.mus_onsets.proofs.RankLaws.{rises_join}
 use Rattle.mus_drawn.specs.Drawn.{drawn_voice}
 use Rattle.mus_time.specs.Columns.{staff_columns}
 use Rattle.mus_time.proofs.Called.{called_same, voices_same}
+use Rattle.mus_slots.proofs.Marks.{all_weaker}
 use Rattle.mus_slots.proofs.Ranges.{columns_more}
 use Rattle.mus_marks.proofs.Inside.{AreAmong}
-use Rattle.lay_columns.proofs.Keyed.{IsWhole, all_weaker, voices_whole}
+use Rattle.lay_columns.proofs.Keyed.{IsWhole, voices_whole}
 
 each_or : {A B C D : Type 0} → (A → C) → (B → D) → A ⊎ B → C ⊎ D
 each_or f g (inl a) = inl (f a)

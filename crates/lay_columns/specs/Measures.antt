@@ -1,39 +1,30 @@
 -- The columns of one measure: in a system that begins with it, and in one that began before. Columns depend neither
--- on heights nor on the texts already in a column, so syllables and texts are placed in a fixed room.
+-- on heights nor on the texts already in a column, so syllables and texts have a fixed place.
 use Rattle.mus_laid.specs.Distances.{top_line}
-use Rattle.std.specs.Prelude.{◌≡◌, ℕ, pos, ◌+◌, ◌-◌, ◌==◌, Bool, true, List, [], ◌∷◌, ◌++◌, drop, flat_map, map, min}
+use Rattle.std.specs.Prelude.{◌≡◌, ℕ, pos, ◌+◌, ◌-◌, ◌==◌, Bool, true, List, [], ◌∷◌, ◌++◌, drop, map, min}
 use Rattle.std.specs.Prelude.{slice_get, Option, Some, None}
 use Rattle.mus_score.specs.declared.score.Score.{Score}
 use Rattle.mus_onsets.specs.declared.keys.Class.{Class}
 use Rattle.mus_onsets.specs.declared.keys.ColumnKey.{ColumnKey}
 use Rattle.mus_onsets.specs.declared.times.Timeline.{Timeline}
 use Rattle.mus_onsets.specs.Keys.{AreKeys}
-use Rattle.mus_onsets.specs.Order.{key_rank}
-use Rattle.mus_laid.specs.declared.drawn.LaneInk.{LaneInk}
 use Rattle.mus_laid.specs.declared.laid.Laid.{Laid}
 use Rattle.mus_laid.specs.declared.laid.StaffMarks.{StaffMarks}
-use Rattle.mus_laid.specs.Ranked.{drawn_at}
+use Rattle.mus_words.specs.declared.texts.TextPlace.{TextPlace}
 use Rattle.mus_drawn.specs.declared.drawn.DrawnEvent.{DrawnEvent}
 use Rattle.mus_drawn.specs.declared.drawn.DrawnMeasure.{DrawnMeasure}
 use Rattle.mus_drawn.specs.declared.drawn.DrawnVoice.{DrawnVoice}
 use Rattle.mus_time.specs.Columns.{keys_called}
-use Rattle.mus_slots.specs.declared.slots.Slot.{Slot}
-use Rattle.mus_slots.specs.Staff.{written_marks}
+use Rattle.mus_slots.specs.Staff.{slots_laid}
 use Rattle.mus_slots.specs.Voice.{range_slots}
-use Rattle.mus_marks.specs.declared.events.WordRoom.{WordRoom}
-use Rattle.mus_marks.specs.declared.events.StaffRoom.{StaffRoom}
-use Rattle.mus_marks.specs.Events.{changes_nothing, no_texts, text_place}
+use Rattle.mus_marks.specs.Events.{changes_nothing}
 use Rattle.mus_marks.specs.System.{drawn_staves}
 use Rattle.lay_reaches.specs.declared.column.Column.{Column}
 use Rattle.lay_reaches.specs.Columns.{columns_of}
 
--- a room over the lines of the staff
-abbrev pub fixed_room : StaffRoom
-fixed_room = record { low = pos 0; high = pos top_line; verses = 0 }
-
--- for the words of a voice whose verses count from `first` on
-abbrev pub fixed_place : ℕ → WordRoom
-fixed_place first = record { room = fixed_room; first = first; before = [] }
+-- the place of words over the lines of the staff
+abbrev pub fixed_place : TextPlace
+fixed_place = record { low = pos 0; high = pos top_line; verses = 0; above = 0; below = 0 }
 
 abbrev pub staff_of_columns : List Laid → StaffMarks
 staff_of_columns marks = record { marks = marks; low = pos 0; high = pos top_line }
@@ -43,21 +34,18 @@ abbrev pub parts_from : (ℕ → DrawnVoice → List Laid) → ℕ → List Draw
 parts_from part first [] = []
 parts_from part first (v ∷ vs) = part first v ++ parts_from part (first + v.verses) vs
 
--- all that a slot has in its column, with its words in that room
-abbrev pub slot_ink : Slot → List LaneInk
-slot_ink s = s.drawn ++ written_marks (text_place fixed_room no_texts) s.written
+-- The marks in the columns of measures a to b - 1 of a voice. If the system begins with them: with its head and the
+-- bar before the first measure. If the system began before: each event after its change and its graces, and the bars.
+abbrev pub range_part : Bool → List ColumnKey → List ℕ → ℕ → ℕ → ℕ → DrawnVoice → List Laid
+range_part begins keys lengths a b first v = slots_laid keys (Some fixed_place) (range_slots begins lengths a b first v)
 
--- the marks of slots, each at the rank of its key
-abbrev pub slots_marks : List ColumnKey → List Slot → List Laid
-slots_marks keys slots = flat_map (λ s. map (drawn_at (key_rank keys s.key)) (slot_ink s)) slots
+abbrev pub range_staff : Bool → List ColumnKey → List ℕ → ℕ → ℕ → List DrawnVoice → StaffMarks
+range_staff begins keys lengths a b voices =
+    staff_of_columns (parts_from (range_part begins keys lengths a b) 0 voices)
 
--- The marks in the columns of measure m of a voice. If the system begins with it: with the system's head and the bar
--- before the first measure. If the system began before: each event after its change and its graces, and the bar.
-abbrev pub measure_part : Bool → List ColumnKey → List ℕ → ℕ → ℕ → DrawnVoice → List Laid
-measure_part begins keys lengths m first v = slots_marks keys (range_slots begins lengths m (m + 1) first v)
-
+-- of measure m alone
 abbrev pub measure_staff : Bool → List ColumnKey → List ℕ → ℕ → List DrawnVoice → StaffMarks
-measure_staff begins keys lengths m voices = staff_of_columns (parts_from (measure_part begins keys lengths m) 0 voices)
+measure_staff begins keys lengths m = range_staff begins keys lengths m (m + 1)
 
 -- whether the first event of measure m of a voice, if there is one, changes neither clef nor key nor meter
 abbrev pub first_plain : List DrawnEvent → Bool

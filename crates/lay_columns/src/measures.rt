@@ -1,4 +1,4 @@
-ghost use Rattle.std.specs.Prelude.{◌≡◌, ◌≤◌, ◌<◌, ◌+◌, ◌++◌, ◌==◌, All, IfOk, OnOk, length, map};
+ghost use Rattle.std.specs.Prelude.{◌≡◌, ◌≤◌, ◌<◌, ◌+◌, ◌++◌, ◌==◌, All, IfOk, length, map};
 ghost use Rattle.mus_score.specs.GoodScore.{IsGoodScore};
 ghost use Rattle.mus_score.specs.Seats.{grouped};
 ghost use Rattle.mus_onsets.specs.Keys.{IsInSystem};
@@ -9,32 +9,31 @@ ghost use Rattle.mus_marks.specs.Staff.{verses_on};
 ghost use Rattle.mus_marks.specs.System.{drawn_staves, is_drawn_lower};
 ghost use Rattle.lay_reaches.specs.Columns.{IsSmall, IsUncut, StandsWhereDue};
 ghost use Rattle.lay_reaches.specs.Lanes.{gaps_of};
-ghost use Rattle.lay_columns.specs.Measures.{AreMeasureColumns, EndWithBar, fixed_place, measure_part, measure_staff};
+ghost use Rattle.lay_columns.specs.Measures.{AreMeasureColumns, EndWithBar, fixed_place, range_staff};
 ghost use Rattle.lay_columns.specs.Measures.{staff_of_columns};
 
 use lay_reaches::{Column, columns_in};
 use mus_drawn::DrawnVoice;
 use mus_laid::{Laid, MarkPen, StaffMarks, TOP_LINE};
-use mus_marks::{StaffRoom, WordRoom, lower_count, put_columns_part, put_measures};
+use mus_marks::{WordsAt, lower_count, put_own_voice};
 use mus_onsets::Timeline;
 use mus_score::Score;
 use mus_time::{SystemFrame, measure_keys};
 use mus_units::{Memory, Row};
+use mus_words::TextPlace;
 use std::alloc::Global;
 
-/// Returns the room for the words of a voice whose verses count from `first` on. Columns depend
-/// neither on heights nor on the texts that are there before.
-fn fixed_place(alloc: Global, first: u8) -> WordRoom
-    ensures { result ≡ fixed_place first }
+/// Returns the place of the words of each column. Columns depend neither on heights nor on the texts that are there
+/// before.
+fn fixed_place() -> TextPlace
+    ensures { result ≡ fixed_place }
 {
-    WordRoom {
-        room: StaffRoom {
-            low: 0,
-            high: TOP_LINE,
-            verses: 0,
-        },
-        first,
-        before: Row::new(alloc),
+    TextPlace {
+        low: 0,
+        high: TOP_LINE,
+        verses: 0,
+        above: 0,
+        below: 0,
     }
 }
 
@@ -48,35 +47,9 @@ fn staff_of_columns(marks: Row<Laid>) -> StaffMarks
     }
 }
 
-/// Adds the marks in the columns of the first measure of a frame of a voice whose verses count from
-/// `first` on. `begins` says whether the system begins with the measure.
-fn put_part(
-    pen: &mut MarkPen,
-    frame: &SystemFrame<'_>,
-    begins: bool,
-    first: u8,
-    v: &DrawnVoice<'_>,
-) -> Result<(), Memory>
-    requires lengths { length v.now.measures ≡ length frame.now.lengths.now }
-    requires good { AreGoodMeasures v.now.measures }
-    requires first { first ≤ 128 }
-    ensures { OnOk result
-        (pen.new.marks
-        ≡ pen.old.marks ++ measure_part begins frame.now.keys.now frame.now.lengths.now frame.now.a first v.now) }
-{
-    let (keys, lengths, m) = (frame.keys, frame.lengths, frame.a);
-    let measures = &v.measures.as_slice()[m as usize..m as usize + 1];
-    let fixed = fixed_place(pen.alloc, first);
-    let place = Some(&fixed);
-    if begins {
-        put_columns_part(pen, keys, lengths, place, m, v.seat, v.first, measures)
-    } else {
-        put_measures(pen, keys, lengths, place, m, false, measures)
-    }
-}
-
-/// Returns the marks in the columns of the measure of a staff with these voices.
-fn measure_staff(
+/// Returns the marks in the columns of a frame of a staff with these voices. `begins` says whether the system begins
+/// with the frame.
+fn range_staff(
     alloc: Global,
     frame: &SystemFrame<'_>,
     begins: bool,
@@ -86,19 +59,20 @@ fn measure_staff(
     requires good { All (λ v. AreGoodMeasures v.measures) voices.now }
     requires verses { verses_on voices.now ≤ 128 }
     ensures { IfOk result
-        (λ r. r ≡ measure_staff begins frame.now.keys.now frame.now.lengths.now frame.now.a voices.now) }
+        (λ r. r ≡ range_staff begins frame.now.keys.now frame.now.lengths.now frame.now.a frame.now.b voices.now) }
 {
     let mut pen = MarkPen::new(alloc);
     let mut first = 0;
     for v in voices {
-        put_part(&mut pen, frame, begins, first, v)?;
+        let place = Some(fixed_place());
+        put_own_voice(&mut pen, frame, begins, WordsAt { first, place }, v)?;
         first += v.verses;
     }
     Ok(staff_of_columns(pen.marks))
 }
 
-/// Returns the marks in the columns of the measure of each staff.
-fn measure_staves(
+/// Returns the marks in the columns of a frame of each staff.
+fn range_staves(
     alloc: Global,
     frame: &SystemFrame<'_>,
     begins: bool,
@@ -109,14 +83,14 @@ fn measure_staves(
     requires verses { verses_on voices.now ≤ 128 }
     ensures { IfOk result (λ r.
         r
-        ≡ map (measure_staff begins frame.now.keys.now frame.now.lengths.now frame.now.a)
+        ≡ map (range_staff begins frame.now.keys.now frame.now.lengths.now frame.now.a frame.now.b)
         (grouped is_drawn_lower voices.now)) }
 {
     let mut staves = Row::with_room(alloc, voices.len())?;
     let mut rest = voices;
     'staves: while let [_, following @ ..] = rest {
         let count = lower_count(following) + 1;
-        staves.push(measure_staff(alloc, frame, begins, &rest[..count])?)?;
+        staves.push(range_staff(alloc, frame, begins, &rest[..count])?)?;
         rest = &rest[count..];
     }
     Ok(staves)
@@ -159,6 +133,6 @@ pub fn measure_columns(
         a: m,
         b: m + 1,
     };
-    let staves = measure_staves(alloc, &frame, a == m, voices)?;
+    let staves = range_staves(alloc, &frame, a == m, voices)?;
     columns_in(alloc, frame.keys, staves.as_slice(), frame.lengths, verses)
 }

@@ -71,12 +71,12 @@ fn lay_out_measures<R: Threads + Sync>(
     rt: &R,
     alloc: Global,
     measured: &Measured<'_>,
-    voices: &mut [DrawnVoice<'_>],
+    voices: &[DrawnVoice<'_>],
     jobs: Jobs,
 ) -> Result<Layout, LayoutError>
     requires measured { IsMeasured measured.now }
-    requires voices { voices.old ≡ map drawn_voice measured.now.score.now.voices }
-    requires drawn { All (λ v. AreGoodMeasures v.measures) voices.old }
+    requires voices { voices.now ≡ map drawn_voice measured.now.score.now.voices }
+    requires drawn { All (λ v. AreGoodMeasures v.measures) voices.now }
     ensures layout { IfOk result (IsLayout measured.now.score.now measured.now.width) }
     ensures no_way { IfErr result (IsCauseIn measured.now.score.now measured.now.width) }
 {
@@ -127,10 +127,10 @@ pub fn lay_out<R: Threads + Sync>(
     ensures no_way { IfErr result (IsCauseIn s.now width) }
 {
     let t = onsets(alloc, s)?;
-    let mut drawn = draw_voices(alloc, s)?;
-    let counts = staff_verses(alloc, drawn.as_slice())?;
+    let drawn = draw_voices(alloc, s)?;
+    let voices = drawn.as_slice();
+    let counts = staff_verses(alloc, voices)?;
     let verses = counts.as_slice();
-    let voices = drawn.items.as_mut_slice();
     let columns = columns_of_measures(alloc, s, voices, &t, verses)?;
     let further = others_of(alloc, s, &columns)?;
     let gaps = gaps_of(alloc, verses)?;

@@ -67,20 +67,19 @@ struct SetSystem {
     heights: Heights,
 }
 
-/// Returns the system of measures `a` to `b` - 1. The voices are left as they were.
+/// Returns the system of measures `a` to `b` - 1.
 fn set_system(
     alloc: Global,
     measured: &Measured<'_>,
-    voices: &mut [DrawnVoice<'_>],
+    voices: &[DrawnVoice<'_>],
     a: u32,
     b: u32,
     rows: &Rows,
 ) -> Result<SetSystem, Memory>
     requires measured { IsMeasured measured.now }
-    requires voices { voices.old ≡ map drawn_voice measured.now.score.now.voices }
-    requires drawn { All (λ v. AreGoodMeasures v.measures) voices.old }
+    requires voices { voices.now ≡ map drawn_voice measured.now.score.now.voices }
+    requires drawn { All (λ v. AreGoodMeasures v.measures) voices.now }
     requires fits { CanBeSet measured.now.score.now measured.now.width rows.now.rows a b }
-    ensures kept { voices.new ≡ voices.old }
     ensures system { IfOk result
         (λ set. IsSetSystem measured.now.score.now measured.now.width a b set.marks set.placed) }
     ensures heights { IfOk result (λ set. IsStack measured.now.score.now set.marks set.heights) }
@@ -120,13 +119,13 @@ pub(crate) struct Systems {
 pub(crate) fn set_systems(
     alloc: Global,
     measured: &Measured<'_>,
-    voices: &mut [DrawnVoice<'_>],
+    voices: &[DrawnVoice<'_>],
     breaks: &[u32],
     rows: &Rows,
 ) -> Result<Systems, Memory>
     requires measured { IsMeasured measured.now }
-    requires voices { voices.old ≡ map drawn_voice measured.now.score.now.voices }
-    requires drawn { All (λ v. AreGoodMeasures v.measures) voices.old }
+    requires voices { voices.now ≡ map drawn_voice measured.now.score.now.voices }
+    requires drawn { All (λ v. AreGoodMeasures v.measures) voices.now }
     requires fits { AllSpans (CanBeSet measured.now.score.now measured.now.width rows.now.rows) 0 breaks.now }
     ensures systems { IfOk result
         (λ r. EachSpan (IsSetSystem measured.now.score.now measured.now.width) 0 breaks.now r.marks r.placed) }

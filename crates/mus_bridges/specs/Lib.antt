@@ -1,4 +1,5 @@
 pub mod Arcs
 pub mod Beams
 pub mod Bridges
+pub mod Ends
 pub mod Levels

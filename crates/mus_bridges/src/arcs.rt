@@ -1,8 +1,11 @@
-ghost use Rattle.std.specs.{Prelude.◌≡◌, Prelude.◌++◌, Prelude.OnOk, Prelude.option_copied, List.find};
+ghost use Rattle.std.specs.Prelude.{◌≡◌, ◌++◌, OnOk, option_map, take, drop};
+ghost use Rattle.std.specs.List.{find};
 ghost use Rattle.mus_words.specs.Arcs.{arc_end_event};
 ghost use Rattle.mus_bridges.specs.Arcs.{has_id, event_at, seen_of, left_key, right_key, arc_between, piece_between};
 ghost use Rattle.mus_bridges.specs.Arcs.{arc_in, arcs_between};
+ghost use Rattle.mus_bridges.specs.Ends.{ended_event, ended_events, ends_from, measure_ended, over};
 
+use crate::ends::{EndedEvent, EndedEvents, end_at, ends_at};
 use mus_arcs::{Arc, Piece, pieces};
 use mus_drawn::{DrawnEvent, DrawnMeasure};
 use mus_laid::Bridge;
@@ -12,39 +15,57 @@ use mus_units::{Memory, Row};
 use mus_words::{ArcEnd, PlacedPiece, put_arc};
 
 /// Returns the event with an id.
-fn event_with<'a, 'b>(id: u32, events: &'a [DrawnEvent<'b>]) -> Option<&'a DrawnEvent<'b>>
-    ensures { option_copied result ≡ find (has_id id) events.now }
+fn event_with<'a>(id: u32, events: EndedEvents<'a>) -> Option<EndedEvent<'a>>
+    ensures { option_map ended_event result ≡ find (has_id id) (ended_events events.entry) }
 {
-    for e in events {
-        if e.flat.event().id == id {
-            return Some(e);
+    for (i, event) in events.events.iter().enumerate() {
+        if event.flat.event().id == id {
+            let to = end_at(events.ends, i, event);
+            return Some(EndedEvent { event, to });
         }
     }
     None
 }
 
+/// Returns the ends of the events of a measure; those of measure `a` are the first of `ends`.
+fn ends_from(ends: &[Row<i32>], a: u32, measure: u32) -> &[i32]
+    ensures { result.now ≡ ends_from ends.now a measure }
+{
+    if measure < a {
+        &[]
+    } else {
+        ends_at(ends, (measure - a) as usize)
+    }
+}
+
 /// Returns the event with an id in a measure of a voice.
-fn event_at<'a, 'b>(
-    measures: &'a [DrawnMeasure<'b>],
+fn event_at<'a>(
+    measures: &'a [DrawnMeasure<'a>],
+    a: u32,
+    ends: &'a [Row<i32>],
     measure: u32,
     id: u32,
-) -> Option<&'a DrawnEvent<'b>>
-    ensures { option_copied result ≡ event_at measures.now measure id }
+) -> Option<EndedEvent<'a>>
+    ensures { option_map ended_event result
+        ≡ event_at (take a measures.now ++ over measure_ended ends.now (drop a measures.now)) measure id }
 {
     match measures.get(measure as usize) {
-        Some(d) => event_with(id, d.events.as_slice()),
+        Some(d) => {
+            let (events, ends) = (d.events.as_slice(), ends_from(ends, a, measure));
+            event_with(id, EndedEvents { events, ends })
+        }
         None => None,
     }
 }
 
-fn end_of<'a>(e: &'a DrawnEvent<'_>) -> ArcEnd<'a>
-    ensures { arc_end_event result ≡ seen_of e.now }
+fn end_of<'a>(e: EndedEvent<'a>) -> ArcEnd<'a>
+    ensures { arc_end_event result ≡ seen_of (ended_event e.entry) }
 {
     ArcEnd {
-        clef: e.clef,
-        heads: e.flat.event().heads.as_slice(),
-        plan: &e.plan,
-        to: e.plan.to,
+        clef: e.event.clef,
+        heads: e.event.flat.event().heads.as_slice(),
+        plan: &e.event.plan,
+        to: e.to,
     }
 }
 
@@ -76,20 +97,20 @@ fn put_arc_between(
     frame: &SystemFrame<'_>,
     piece: Piece,
     arc: &Arc,
-    first: Option<&DrawnEvent<'_>>,
-    last: Option<&DrawnEvent<'_>>,
+    first: Option<EndedEvent<'_>>,
+    last: Option<EndedEvent<'_>>,
 ) -> Result<(), Memory>
     ensures { OnOk result
         (out.new
         ≡ out.old
-        ++ arc_between frame.now.lengths.now frame.now.a frame.now.b piece arc.now (option_copied first.entry)
-        (option_copied last.entry)) }
+        ++ arc_between frame.now.lengths.now frame.now.a frame.now.b piece arc.now (option_map ended_event first.entry)
+        (option_map ended_event last.entry)) }
 {
     let (Some(first), Some(last)) = (first, last) else {
         return Ok(());
     };
-    let left = left_key(frame.a, piece, arc.from, first);
-    let right = right_key(frame, piece, arc.to, last);
+    let left = left_key(frame.a, piece, arc.from, first.event);
+    let right = right_key(frame, piece, arc.to, last.event);
     let placed = PlacedPiece { left, right, piece };
     put_arc(out, placed, arc, end_of(first), end_of(last))
 }
@@ -98,17 +119,21 @@ fn put_arc_between(
 fn put_arc_in(
     out: &mut Row<Bridge>,
     frame: &SystemFrame<'_>,
+    ends: &[Row<i32>],
     measures: &[DrawnMeasure<'_>],
     arc: &Arc,
 ) -> Result<(), Memory>
     ensures { OnOk result
-        (out.new ≡ out.old ++ arc_in frame.now.lengths.now frame.now.a frame.now.b measures.now arc.now) }
+        (out.new
+        ≡ out.old
+        ++ arc_in frame.now.lengths.now frame.now.a frame.now.b
+        (take frame.now.a measures.now ++ over measure_ended ends.now (drop frame.now.a measures.now)) arc.now) }
 {
     match pieces(arc, frame.a, frame.b) {
         None => Ok(()),
         Some(piece) => {
-            let first = event_at(measures, arc.from, arc.first);
-            let last = event_at(measures, arc.to, arc.last);
+            let first = event_at(measures, frame.a, ends, arc.from, arc.first);
+            let last = event_at(measures, frame.a, ends, arc.to, arc.last);
             put_arc_between(out, frame, piece, arc, first, last)
         }
     }
@@ -118,14 +143,18 @@ fn put_arc_in(
 pub(crate) fn put_arcs_between(
     out: &mut Row<Bridge>,
     frame: &SystemFrame<'_>,
+    ends: &[Row<i32>],
     measures: &[DrawnMeasure<'_>],
     arcs: &[Arc],
 ) -> Result<(), Memory>
     ensures { OnOk result
-        (out.new ≡ out.old ++ arcs_between frame.now.lengths.now frame.now.a frame.now.b measures.now arcs.now) }
+        (out.new
+        ≡ out.old
+        ++ arcs_between frame.now.lengths.now frame.now.a frame.now.b
+        (take frame.now.a measures.now ++ over measure_ended ends.now (drop frame.now.a measures.now)) arcs.now) }
 {
     for arc in arcs {
-        put_arc_in(out, frame, measures, arc)?;
+        put_arc_in(out, frame, ends, measures, arc)?;
     }
     Ok(())
 }

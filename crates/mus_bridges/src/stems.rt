@@ -2,7 +2,9 @@ ghost use Rattle.std.specs.Prelude.{◌≡◌, ◌-◌, ◌++◌, map, OnOk};
 ghost use Rattle.mus_bridges.specs.Beams.{stem_of, way_of, goes_on_at_level, last_at, level_from, levels_from};
 ghost use Rattle.mus_bridges.specs.Beams.{levels_before, beams_at, beams_from, beam_marks};
 ghost use Rattle.mus_bridges.specs.Bridges.{beam_stem_at};
+ghost use Rattle.mus_bridges.specs.Ends.{ended_events, event_ended};
 
+use crate::ends::{EndedEvents, end_at};
 use mus_drawn::DrawnEvent;
 use mus_ink::drawing::put_beam;
 use mus_ink::stems::lower_edge;
@@ -22,18 +24,33 @@ pub struct BeamStem {
     pub flags: u8,
 }
 
-/// Returns what beams need of an event of a measure.
+/// Returns what beams need of an event of a measure, whose stem ends at `to`.
 #[tactic(auto, unfolding(crate::specs::Beams::stem_of))]
-fn beam_stem_at(measure: u32, e: &DrawnEvent<'_>) -> BeamStem
-    ensures { result ≡ beam_stem_at measure e.now }
+fn beam_stem_at(measure: u32, to: i32, e: &DrawnEvent<'_>) -> BeamStem
+    ensures { result ≡ beam_stem_at measure (event_ended to e.now) }
 {
     BeamStem {
         key: note_key(measure, e),
         up: e.plan.up,
-        to: e.plan.to,
+        to,
         group: e.plan.group,
         flags: e.plan.flags,
     }
+}
+
+/// Sets `stems` to what beams need of the events of a measure.
+pub(crate) fn set_stems(
+    stems: &mut Row<BeamStem>,
+    measure: u32,
+    events: EndedEvents<'_>,
+) -> Result<(), Memory>
+    ensures { OnOk result (stems.new ≡ map (beam_stem_at measure) (ended_events events.entry)) }
+{
+    stems.items.clear();
+    for (i, e) in events.events.iter().enumerate() {
+        stems.push(beam_stem_at(measure, end_at(events.ends, i, e), e))?;
+    }
+    Ok(())
 }
 
 fn way(up: bool) -> Way
@@ -49,17 +66,16 @@ fn goes_on_at_level(level: u8, p: BeamStem, q: BeamStem) -> bool
     q.group == p.group && level < q.flags
 }
 
-/// Returns the last event of an event's run at a level, looking through the events after it.
-fn last_at(level: u8, measure: u32, p: BeamStem, following: &[DrawnEvent<'_>]) -> BeamStem
-    ensures { result ≡ last_at level p (map (beam_stem_at measure) following.now) }
+/// Returns the last stem of a stem's run at a level, looking through the stems after it.
+fn last_at(level: u8, p: BeamStem, following: &[BeamStem]) -> BeamStem
+    ensures { result ≡ last_at level p following.now }
 {
     let mut last = p;
-    for e in following {
-        let q = beam_stem_at(measure, e);
-        if !goes_on_at_level(level, last, q) {
+    for q in following {
+        if !goes_on_at_level(level, last, *q) {
             return last;
         }
-        last = q;
+        last = *q;
     }
     last
 }
@@ -77,21 +93,19 @@ fn put_level(out: &mut Row<Bridge>, level: u8, p: BeamStem, q: BeamStem) -> Resu
     put_beam(out, way(p.up), p.key, q.key, from, to)
 }
 
-/// Draws the beams of the runs that begin at an event, from `level` to `flags` - 1.
+/// Draws the beams of the runs that begin at a stem, from `level` to `flags` - 1.
 #[tactic(auto, using(crate::proofs::LevelLaws::levels_step, std::proofs::lemmas::Grind::common_steps))]
 fn put_levels(
     out: &mut Row<Bridge>,
     level: u8,
     flags: u8,
-    measure: u32,
     p: BeamStem,
-    following: &[DrawnEvent<'_>],
+    following: &[BeamStem],
 ) -> Result<(), Memory>
-    ensures { OnOk result
-        (out.new ≡ out.old ++ levels_from level (flags - level) p (map (beam_stem_at measure) following.now)) }
+    ensures { OnOk result (out.new ≡ out.old ++ levels_from level (flags - level) p following.now) }
 {
     for k in level..flags {
-        put_level(out, k, p, last_at(k, measure, p, following))?;
+        put_level(out, k, p, last_at(k, p, following))?;
     }
     Ok(())
 }
@@ -103,37 +117,31 @@ fn levels_before(p: BeamStem, group: u32, flags: u8) -> u8
     if p.group == group { flags } else { 0 }
 }
 
-/// Draws the beams that begin at an event; the event before it is in `group` with `flags` levels.
+/// Draws the beams that begin at a stem; the stem before it is in `group` with `flags` levels.
 #[tactic(auto, unfolding(crate::specs::Beams::beams_at))]
 fn put_beams_at(
     out: &mut Row<Bridge>,
     group: u32,
     flags: u8,
-    measure: u32,
     p: BeamStem,
-    following: &[DrawnEvent<'_>],
+    following: &[BeamStem],
 ) -> Result<(), Memory>
-    ensures { OnOk result (out.new ≡ out.old ++ beams_at group flags p (map (beam_stem_at measure) following.now)) }
+    ensures { OnOk result (out.new ≡ out.old ++ beams_at group flags p following.now) }
 {
     let level = levels_before(p, group, flags);
-    put_levels(out, level, p.flags, measure, p, following)
+    put_levels(out, level, p.flags, p, following)
 }
 
-/// Draws the beams of the events of a measure: by the first event that each joins, then by level.
+/// Draws the beams of the stems of a measure: by the first event that each joins, then by level.
 #[tactic(auto, unfolding(crate::specs::Beams::beam_marks))]
-pub fn put_beams(
-    out: &mut Row<Bridge>,
-    measure: u32,
-    events: &[DrawnEvent<'_>],
-) -> Result<(), Memory>
-    ensures { OnOk result (out.new ≡ out.old ++ beam_marks (map (beam_stem_at measure) events.now)) }
+pub fn put_beams(out: &mut Row<Bridge>, stems: &[BeamStem]) -> Result<(), Memory>
+    ensures { OnOk result (out.new ≡ out.old ++ beam_marks stems.now) }
 {
-    let mut rest = events;
+    let mut rest = stems;
     let mut group = 0;
     let mut flags = 0;
-    while let [e, following @ ..] = rest {
-        let p = beam_stem_at(measure, e);
-        put_beams_at(out, group, flags, measure, p, following)?;
+    while let [p, following @ ..] = rest {
+        put_beams_at(out, group, flags, *p, following)?;
         group = p.group;
         flags = p.flags;
         rest = following;

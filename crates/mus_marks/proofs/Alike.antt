@@ -58,6 +58,7 @@ use Rattle.mus_bridges.specs.Beams.{levels_before, levels_from, stem_of, way_of}
 use Rattle.mus_bridges.specs.Arcs.{arc_between, arc_in, arcs_between, event_at, event_in, has_id, left_key}
 use Rattle.mus_bridges.specs.Arcs.{piece_between, right_key, seen_of}
 use Rattle.mus_bridges.specs.Bridges.{beams_between, bridges_of, event_grace_beam, grace_beams_between, beam_stem_at}
+use Rattle.mus_slots.proofs.Marks.{FitsVoice}
 use Rattle.mus_slots.specs.declared.slots.Slot.{Slot}
 use Rattle.mus_slots.specs.declared.slots.VoiceSlots.{VoiceSlots}
 use Rattle.mus_slots.specs.declared.slots.Written.{Written}
@@ -72,7 +73,6 @@ use Rattle.mus_marks.specs.Tilt.{IsTilted, tilted_staff, voice_tilted}
 use Rattle.mus_marks.proofs.Ending.{flat_event, flat_measure, ended_fits, flat_voice}
 use Rattle.mus_marks.proofs.Fitting.{staves_fit}
 use Rattle.mus_marks.proofs.OneList.{same_keys}
-use Rattle.mus_marks.proofs.Parts.{FitsVoice}
 use Rattle.mus_marks.proofs.GoodMarks.{staves_good}
 use Rattle.mus_laid.specs.declared.laid.Lane.TheVariants as lanes
 

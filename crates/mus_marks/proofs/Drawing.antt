@@ -1,34 +1,38 @@
 -- The parts of a staff as they are drawn: voices without words, and their words, put together column by column.
 use Rattle.std.proofs.Common.{◌≡◌, ◌∙◌, ◌<◌, ◌≤◌, ℕ, zero, suc, pos, ◌+◌, List, [], ◌∷◌, ◌++◌, drop, get_or, length}
-use Rattle.std.proofs.Common.{map, append_assoc, None, true, refl, sym, ap, arith}
+use Rattle.std.proofs.Common.{map, append_assoc, Bool, ◌||◌, Option, None, true, false, refl, sym, ap, arith}
+use Rattle.std.proofs.lemmas.Grind.{flat_map-append}
 use Rattle.std.proofs.lemmas.List.{append-nil, drop_more}
 use Rattle.std.proofs.lemmas.List.Elements.{recursion_from_All}
 use Rattle.std.specs.List.{All, AllByRecursion, flat_map}
+use Rattle.mus_score.specs.Seats.{is_lower}
 use Rattle.mus_onsets.specs.declared.keys.ColumnKey.{ColumnKey}
-use Rattle.mus_onsets.specs.Order.{Rises}
+use Rattle.mus_onsets.specs.Order.{Rises, key_rank}
 use Rattle.mus_laid.specs.declared.boxes.HeightRange.{HeightRange}
 use Rattle.mus_laid.specs.declared.drawn.Bridge.{Bridge}
 use Rattle.mus_laid.specs.declared.laid.Laid.{Laid}
 use Rattle.mus_laid.specs.declared.laid.StaffMarks.{StaffMarks}
 use Rattle.mus_laid.specs.Boxes.{heights, heights_of, over_marks, staff_heights, union_of_heights}
 use Rattle.mus_laid.specs.Distances.{top_line}
-use Rattle.mus_laid.specs.Ranked.{bridge_at, by_columns}
+use Rattle.mus_laid.specs.Ranked.{bridge_at, by_columns, drawn_at}
 use Rattle.mus_words.specs.declared.texts.TextPlace.{TextPlace}
 use Rattle.mus_drawn.specs.declared.drawn.DrawnEvent.{DrawnEvent}
 use Rattle.mus_drawn.specs.declared.drawn.DrawnMeasure.{DrawnMeasure}
 use Rattle.mus_drawn.specs.declared.drawn.DrawnVoice.{DrawnVoice}
 use Rattle.mus_bridges.specs.Bridges.{bridges_of}
 use Rattle.mus_slots.specs.declared.slots.VoiceSlots.{VoiceSlots}
-use Rattle.mus_slots.specs.Staff.{bare_laid, bare_slots, place_outside, place_over, staff_columns, staff_laid}
-use Rattle.mus_slots.specs.Voice.{slots_of_voice, slots_of_voices, voice_slots}
+use Rattle.mus_time.specs.Columns.{note_key}
+use Rattle.mus_slots.specs.Staff.{bare_laid, bare_slots, ink_with, place_outside, slot_laid, slots_laid}
+use Rattle.mus_slots.specs.Staff.{staff_columns, staff_laid}
+use Rattle.mus_slots.specs.Voice.{bar_slots, change_slots, event_marks, event_slots, events_slots, group_slots}
+use Rattle.mus_slots.specs.Voice.{levels_after, levels_in, measures_slots, slots_of_voices, voice_slots, written_of}
+use Rattle.mus_slots.proofs.Laid.{blank_laid, event_laid}
 use Rattle.mus_slots.specs.Words.{IsInOrder, IsOrdered, all_passed, with_words, words_from, words_slot, words_slots}
 use Rattle.mus_slots.proofs.InColumns.{columns_same, silent_same}
-use Rattle.mus_slots.proofs.Words.{SameWords, blank_same, passed_join, words_join}
+use Rattle.mus_slots.proofs.Words.{SameWords, blank_same, one_blank, passed_join, words_join}
 use Rattle.mus_marks.specs.Silent.{is_silent, is_silent_staff}
-use Rattle.mus_marks.specs.Staff.{own_part, staff_marks, staff_over, verses_on}
-use Rattle.mus_marks.proofs.VoiceSlots.{voice_laid}
+use Rattle.mus_marks.specs.Staff.{staff_marks, staff_over, verses_on}
 use Rattle.mus_marks.proofs.Silent.{staff_blank, written_blank}
-use Rattle.mus_marks.proofs.StaffSlots.{all_bare, bare_same, between_same}
 
 -- heights over marks, and over further ones
 pub over_more : (range : HeightRange) (xs ys : List Laid)
@@ -89,6 +93,64 @@ place_turn keys place i places new whole inside put so_far =
     ∙ ap (λ t. places ++ t) (sym (mapped_drop place keys i inside))
     ∙ so_far
 
+-- ---- marks
+module _ (keys : List ColumnKey) (place : Option TextPlace) (first m : ℕ) where
+  pub event_turn : (in_head : Bool) (group flags before after : ℕ) (e : DrawnEvent) (es rest : List DrawnEvent)
+      (old changed graced new whole : List Laid)
+      → rest ≡ e ∷ es → before ≡ levels_in e.plan group flags → after ≡ levels_after e.plan es
+      → changed ≡ old ++ slots_laid keys None (change_slots m (in_head || is_lower e.seat) e)
+      → graced ≡ changed ++ slots_laid keys None (group_slots m e)
+      → new
+      ≡ graced
+      ++ map (drawn_at (key_rank keys (note_key m e)))
+      (ink_with place (event_marks before after e) (written_of first e.flat))
+      → old ++ slots_laid keys place (events_slots first m in_head group flags rest) ≡ whole
+      → new ++ slots_laid keys place (events_slots first m false e.plan.group e.plan.flags es) ≡ whole
+  event_turn in_head group flags before after e es rest old changed graced new whole prefix levels levels_next
+      put_change put_graces put so_far =
+      let change = slots_laid keys None (change_slots m (in_head || is_lower e.seat) e) in
+      let graces = slots_laid keys None (group_slots m e) in
+      let ink = λ (before after : ℕ).
+      map (drawn_at (key_rank keys (note_key m e)))
+      (ink_with place (event_marks before after e) (written_of first e.flat)) in
+      let own = event_slots first m in_head (levels_in e.plan group flags) (levels_after e.plan es) e in
+      let rest_laid = slots_laid keys place (events_slots first m false e.plan.group e.plan.flags es) in
+      ap (λ t. t ++ rest_laid)
+      (put
+      ∙ ap (λ t. t ++ ink before after) (put_graces ∙ ap (λ t. t ++ graces) put_change)
+      ∙ ap (λ n. old ++ change ++ graces ++ ink n after) levels
+      ∙ ap (λ n. old ++ change ++ graces ++ ink (levels_in e.plan group flags) n) levels_next
+      ∙ ap (λ t. t ++ ink (levels_in e.plan group flags) (levels_after e.plan es)) (append_assoc old change graces)
+      ∙ append_assoc old (change ++ graces) (ink (levels_in e.plan group flags) (levels_after e.plan es))
+      ∙ ap (λ t. old ++ t) (event_laid keys place first m in_head _ _ e))
+      ∙ append_assoc old (slots_laid keys place own) rest_laid
+      ∙ ap (λ t. old ++ t)
+      (sym
+      (flat_map-append (slot_laid keys place) own (events_slots first m false e.plan.group e.plan.flags es)))
+      ∙ ap (λ t. old ++ slots_laid keys place (events_slots first m in_head group flags t)) (sym prefix)
+      ∙ so_far
+
+module _ (keys : List ColumnKey) (place : Option TextPlace) (first : ℕ) (lengths : List ℕ) (m : ℕ) where
+  pub measure_turn : (in_head : Bool) (d : DrawnMeasure) (ds rest : List DrawnMeasure) (old mid new whole : List Laid)
+      → rest ≡ d ∷ ds → mid ≡ old ++ slots_laid keys place (events_slots first m in_head 0 0 d.events)
+      → new ≡ mid ++ slots_laid keys None (bar_slots lengths m d)
+      → old ++ slots_laid keys place (measures_slots first lengths m in_head rest) ≡ whole
+      → new ++ slots_laid keys place (measures_slots first lengths (m + 1) false ds) ≡ whole
+  measure_turn in_head d ds rest old mid new whole prefix put put_bar so_far =
+      let own = events_slots first m in_head 0 0 d.events in
+      let bar = bar_slots lengths m d in
+      let more = measures_slots first lengths (m + 1) false ds in
+      ap (λ t. t ++ slots_laid keys place more)
+      (put_bar
+      ∙ ap (λ t. mid ++ t) (blank_laid keys place bar (one_blank _ _ _))
+      ∙ ap (λ t. t ++ slots_laid keys place bar) put
+      ∙ append_assoc old (slots_laid keys place own) (slots_laid keys place bar)
+      ∙ ap (λ t. old ++ t) (sym (flat_map-append (slot_laid keys place) own bar)))
+      ∙ append_assoc old (slots_laid keys place (own ++ bar)) (slots_laid keys place more)
+      ∙ ap (λ t. old ++ t) (sym (flat_map-append (slot_laid keys place) (own ++ bar) more))
+      ∙ ap (λ t. old ++ slots_laid keys place (measures_slots first lengths m in_head t)) (sym prefix)
+      ∙ so_far
+
 -- ---- words
 module _ (keys : List ColumnKey) (places : List TextPlace) (first m : ℕ) where
   module _ (e : DrawnEvent) (silent : is_silent e.flat ≡ true) where
@@ -128,34 +190,29 @@ module _ (keys : List ColumnKey) (places : List TextPlace) (first m : ℕ) where
             ∙ passed_so,
       )
 
-all_mapped : (f : DrawnVoice → List Laid) (vs : List DrawnVoice) → flat_map (λ part. part) (map f vs) ≡ flat_map f vs
+all_mapped : (f : VoiceSlots → List Laid) (vs : List VoiceSlots) → flat_map (λ part. part) (map f vs) ≡ flat_map f vs
 all_mapped f [] = refl
 all_mapped f (v ∷ vs) = ap (λ t. f v ++ t) (all_mapped f vs)
 
 module _ (keys : List ColumnKey) (lengths : List ℕ) (a b : ℕ) where
-  pub place_there : (vs : List DrawnVoice) (parts : List (List Laid)) (bridges : List Bridge) (between : List Laid)
-      (range : HeightRange) (place : TextPlace)
-      → parts ≡ map (own_part keys lengths None a b) vs
-      → bridges ≡ flat_map (bridges_of lengths a b) vs → between ≡ map (bridge_at keys) bridges
-      → range ≡ staff_heights (flat_map (λ part. part) parts ++ between) → place ≡ place_over (verses_on vs) range
-      → place ≡ place_outside (verses_on vs) (bare_laid keys (slots_of_voices 0 lengths a b vs))
-  place_there vs parts bridges between range place is are put high over =
-      over
-      ∙ ap (place_over (verses_on vs)) (high
-      ∙ ap (λ t. staff_heights (flat_map (λ part. part) t ++ between)) is
-      ∙ ap (λ t. staff_heights (t ++ between)) (all_mapped (own_part keys lengths None a b) vs)
-      ∙ ap (λ t. staff_heights (flat_map (own_part keys lengths None a b) vs ++ t))
-      (put ∙ ap (map (bridge_at keys)) are)
-      ∙ ap staff_heights (all_bare keys lengths a b 0 vs))
+  -- what voices have between columns
+  between_same : (first : ℕ) (vs : List DrawnVoice)
+      → flat_map (bridges_of lengths a b) vs ≡ flat_map (λ v. v.bridges) (slots_of_voices first lengths a b vs)
+  between_same first [] = refl
+  between_same first (v ∷ vs) = ap (λ t. bridges_of lengths a b v ++ t) (between_same (first + v.verses) vs)
 
-  -- parts without words by slots
-  parts_slots : (first : ℕ) (vs : List DrawnVoice)
-      → map (own_part keys lengths None a b) vs ≡ map (bare_slots keys) (slots_of_voices first lengths a b vs)
-  parts_slots first [] = refl
-  parts_slots first (v ∷ vs) =
-      ap (λ t. t ∷ map (own_part keys lengths None a b) vs)
-      (voice_laid keys None first tt lengths a b v ∙ bare_same keys lengths a b (voice_slots first lengths a b v))
-      ∙ ap (λ t. bare_slots keys (slots_of_voice first lengths a b v) ∷ t) (parts_slots (first + v.verses) vs)
+  pub place_there : (vs : List DrawnVoice) (parts : List (List Laid)) (bridges : List Bridge) (place : TextPlace)
+      → parts ≡ map (bare_slots keys) (slots_of_voices 0 lengths a b vs)
+      → bridges ≡ flat_map (bridges_of lengths a b) vs
+      → place ≡ place_outside (verses_on vs) (flat_map (λ part. part) parts ++ map (bridge_at keys) bridges)
+      → place ≡ place_outside (verses_on vs) (bare_laid keys (slots_of_voices 0 lengths a b vs))
+  place_there vs parts bridges place is are made =
+      let voices = slots_of_voices 0 lengths a b vs in
+      made
+      ∙ ap (place_outside (verses_on vs))
+      (ap (λ t. flat_map (λ part. part) t ++ map (bridge_at keys) bridges) is
+      ∙ ap (λ t. t ++ map (bridge_at keys) bridges) (all_mapped (bare_slots keys) voices)
+      ∙ ap (λ t. flat_map (bare_slots keys) voices ++ map (bridge_at keys) t) (are ∙ between_same 0 vs))
 
   in_order : (first : ℕ) (vs : List DrawnVoice)
       → AllByRecursion (IsOrdered keys lengths a b) vs
@@ -197,7 +254,7 @@ module _ (keys : List ColumnKey) (lengths : List ℕ) (a b : ℕ) where
       ∙ ap staff_over (put
       ∙ ap (λ t. t ++ map (bridge_at keys) bridges) is
       ∙ ap (λ t. staff_columns keys (verses_on vs) voices ++ map (bridge_at keys) t)
-      (are ∙ between_same keys lengths a b 0 vs))
+      (are ∙ between_same 0 vs))
 
   module _ (rise : Rises keys) (vs : List DrawnVoice) (ordered : All (IsOrdered keys lengths a b) vs) where
     abbrev voices : List VoiceSlots
@@ -208,20 +265,20 @@ module _ (keys : List ColumnKey) (lengths : List ℕ) (a b : ℕ) where
 
     pub silent_columns : (parts : List (List Laid))
         → is_silent_staff a b vs ≡ true
-        → parts ≡ map (own_part keys lengths None a b) vs
+        → parts ≡ map (bare_slots keys) voices
         → by_columns (length keys) parts ≡ staff_columns keys (verses_on vs) voices
     silent_columns parts silent is =
-        ap (by_columns (length keys)) (is ∙ parts_slots 0 vs)
+        ap (by_columns (length keys)) is
         ∙ silent_same keys rise (place_outside (verses_on vs) (bare_laid keys voices)) voices each
         (staff_blank 0 lengths a b vs silent)
 
     pub word_columns : (bare parts : List (List Laid)) (place : TextPlace)
-        → bare ≡ map (own_part keys lengths None a b) vs
+        → bare ≡ map (bare_slots keys) voices
         → place ≡ place_outside (verses_on vs) (bare_laid keys voices)
         → parts ≡ with_words keys (map (λ k. place) keys) bare voices
         → by_columns (length keys) parts ≡ staff_columns keys (verses_on vs) voices
     word_columns bare parts place is here with =
         ap (by_columns (length keys)) (with
-        ∙ ap (λ t. with_words keys (map (λ k. place) keys) t voices) (is ∙ parts_slots 0 vs)
+        ∙ ap (λ t. with_words keys (map (λ k. place) keys) t voices) is
         ∙ ap (λ p. with_words keys (map (λ k. p) keys) (map (bare_slots keys) voices) voices) here)
         ∙ columns_same keys rise (place_outside (verses_on vs) (bare_laid keys voices)) voices each

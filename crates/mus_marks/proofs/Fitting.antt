@@ -18,7 +18,8 @@ use Rattle.mus_drawn.specs.Drawn.{staff_state_after, standing_of, style_of}
 use Rattle.mus_marks.specs.Staff.{verses_on}
 use Rattle.mus_marks.specs.System.{drawn_staves, is_drawn_lower}
 use Rattle.mus_marks.proofs.Groups.{grouped_all}
-use Rattle.mus_marks.proofs.Parts.{Fits, FitsEvent, FitsMeasure, FitsVoice, verses_cons}
+use Rattle.mus_slots.proofs.Marks.{Fits, FitsEvent, FitsMeasure, FitsVoice}
+use Rattle.mus_marks.proofs.Verses.{verses_cons}
 
 all_cut : {A : Type 0} (P : A → Type 0) (xs ys : List A)
     → AllByRecursion P (xs ++ ys) → AllByRecursion P xs × AllByRecursion P ys

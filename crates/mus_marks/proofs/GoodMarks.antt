@@ -17,8 +17,8 @@ use Rattle.mus_laid.specs.Ranked.{drawn_at, span_at}
 use Rattle.mus_ink.specs.Signatures.{meter_marks}
 use Rattle.mus_words.proofs.EachWord.{IsShown}
 use Rattle.mus_drawn.specs.declared.drawn.DrawnVoice.{DrawnVoice}
-use Rattle.mus_marks.specs.Staff.{staff_marks, verses_on}
-use Rattle.mus_marks.proofs.Parts.{FitsVoice, OfLaid, staff_all}
+use Rattle.mus_slots.proofs.Marks.{FitsVoice, OfLaid, staff_all}
+use Rattle.mus_marks.specs.Staff.{staff_marks, staff_over, verses_on}
 
 halving_small : (n : ℕ) → IsTrue (is_halving n) → n ≤ 64
 halving_small n h = grind (arith, nat_tests, h)
@@ -66,6 +66,7 @@ goods verses keys = record {
 pub staves_good : (keys : List ColumnKey) (lengths : List ℕ) (a b : ℕ) (staves : List (List DrawnVoice))
     → AllByRecursion (AllByRecursion FitsVoice) staves
     → All (λ s. AreGoodMarks s.marks) (map (staff_marks keys lengths a b) staves)
+unfolding staff_marks staff_over
 staves_good keys lengths a b staves fit =
     All-from_recursion (λ s. AreGoodMarks s.marks) (map (staff_marks keys lengths a b) staves) (by staves fit)
   where

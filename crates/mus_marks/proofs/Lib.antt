@@ -1,8 +1,5 @@
 pub mod Alike
 pub mod AllTilted
-pub mod Columned
-pub mod Columns
-pub mod Counts
 pub mod Drawing
 pub mod Ending
 pub mod Fitting
@@ -13,12 +10,9 @@ pub mod Groups
 pub mod Inside
 pub mod Lines
 pub mod OneList
-pub mod Parts
 pub mod Placed
 pub mod Silent
 pub mod Sloping
-pub mod StaffSlots
 pub mod SystemSlots
 pub mod Tilted
-pub mod Unchanged
-pub mod VoiceSlots
+pub mod Verses

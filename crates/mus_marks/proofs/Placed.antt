@@ -1,12 +1,9 @@
 -- The voices of a good score have their slots in the columns of a system, one after another.
-use Rattle.std.proofs.Common.{◌≡◌, ℕ, ◌+◌, ◌-◌, ◌<◌, ◌≤◌, ◌==◌, ◌||◌, Bool, true, false, if◌then◌else◌, List, []}
-use Rattle.std.proofs.Common.{◌∷◌, length, length-drop, length-take, map, drop, Some, None, refl, subst}
+use Rattle.std.proofs.Common.{◌≡◌, ℕ, ◌+◌, ◌-◌, ◌<◌, ◌≤◌, true, List, []}
+use Rattle.std.proofs.Common.{◌∷◌, length, length-drop, length-take, map, drop, refl, sym, subst}
 use Rattle.std.proofs.Common.{arith}
 use Rattle.std.proofs.lemmas.List.Elements.{All-contains, recursion_from_All}
 use Rattle.std.specs.List.{All, AllByRecursion, Contains, slice_index, slice_range}
-use Rattle.std.specs.Prelude.{IfSome}
-use Rattle.mus_units.specs.declared.key.Meter.{Meter}
-use Rattle.mus_units.specs.Good.{IsGoodMeter}
 use Rattle.mus_score.specs.declared.score.Flat.{Flat}
 use Rattle.mus_score.specs.declared.score.Measure.{Measure}
 use Rattle.mus_score.specs.declared.score.Score.{Score}
@@ -18,53 +15,26 @@ use Rattle.mus_onsets.specs.declared.keys.ColumnKey.{ColumnKey}
 use Rattle.mus_onsets.specs.declared.times.Timeline.{Timeline}
 use Rattle.mus_onsets.specs.Keys.{AreKeys, IsInSystem, called_keys, voice_keys}
 use Rattle.mus_onsets.specs.Onsets.{timeline_of}
+use Rattle.mus_onsets.specs.Order.{Rises}
 use Rattle.mus_stems.specs.declared.plans.StemPlan.{StemPlan}
 use Rattle.mus_stems.proofs.RunLaws.{all_drop, all_take}
-use Rattle.mus_ink.proofs.EachMark.{bar, change, grace, head, note}
 use Rattle.mus_drawn.specs.declared.drawn.DrawnEvent.{DrawnEvent}
 use Rattle.mus_drawn.specs.declared.drawn.DrawnMeasure.{DrawnMeasure}
 use Rattle.mus_drawn.specs.declared.drawn.DrawnVoice.{DrawnVoice}
 use Rattle.mus_drawn.specs.declared.drawn.Style.{Style}
 use Rattle.mus_drawn.specs.declared.standing.StaffState.{StaffState}
-use Rattle.mus_drawn.specs.Drawn.{drawn_events, drawn_measure, drawn_measures, drawn_voice, raise_of, staff_state_after}
+use Rattle.mus_drawn.specs.Drawn.{drawn_events, drawn_measure, drawn_measures, drawn_voice, staff_state_after}
 use Rattle.mus_drawn.specs.Drawn.{standing_after, standing_of, style_of}
-use Rattle.mus_time.specs.Columns.{note_key}
+use Rattle.mus_time.specs.Columns.{note_key, staff_columns}
 use Rattle.mus_time.proofs.Called.{keys_placed, staff_same}
 use Rattle.mus_time.proofs.Counts.{voice_count}
 use Rattle.mus_slots.specs.declared.slots.Slot.{Slot}
+use Rattle.mus_slots.specs.Voice.{keys_of, voice_slots}
+use Rattle.mus_slots.specs.Words.{IsOrdered}
 use Rattle.mus_slots.proofs.KeysOf.{AreSeated, IsSeated, voice_keyed}
-use Rattle.mus_slots.proofs.Parts.{OfSlots, voice_all}
 use Rattle.mus_slots.proofs.Rising.{AreTimed, TicksRise, voice_rises}
-use Rattle.mus_marks.proofs.Fitting.{voice_fits}
 use Rattle.mus_marks.proofs.GoingOn.{AllGoOn, GoOn, IsEarlier, voice_goes_on}
 use Rattle.mus_marks.proofs.Inside.{AreAmong, HasEvent, HasMeasures, here, measures_inside, there, voices_called}
-use Rattle.mus_marks.proofs.Parts.{FitsEvent, FitsVoice}
-use Rattle.mus_marks.proofs.Columns.{IsSlotted}
-use Rattle.mus_marks.proofs.Counts.{IsAside, marks_aside}
-
--- ---- the marks of slots are aside from texts
-if_meter : (b : Bool) (m : Meter) → IsGoodMeter m → IfSome (if b then Some m else None) IsGoodMeter
-if_meter true m good = good
-if_meter false m good = tt
-
-abbrev pub AllAside : Slot → Type 0
-AllAside s = AllByRecursion IsAside s.drawn
-
-pub slots_aside : (verses first : ℕ) (lengths : List ℕ)
-    → OfSlots first lengths AllAside (FitsEvent verses) (λ d. IsGoodMeter d.opening.meter)
-slots_aside verses first lengths = record {
-  of_head =
-      λ a d good.
-      head IsAside marks_aside d.opening.clef d.opening.key.signs _
-      (if_meter ((a == 0) || d.opening.anew) d.opening.meter good);
-  of_first = λ b. bar IsAside marks_aside b;
-  of_change = λ m e fits marked. change IsAside marks_aside e.clef e.old e.flat.event.changes fits.0;
-  of_grace = λ m tick clef group i g. grace IsAside marks_aside clef group (i == 0) g;
-  of_note =
-      λ m before after e fits.
-      note IsAside marks_aside e.clef (raise_of e.seat) e.flat.event e.plan before after;
-  of_bar = λ m d good. bar IsAside marks_aside d.bar;
-}
 
 -- ---- the events of a voice have its seat
 events_seated : (style : Style) (tick : ℕ) (now : StaffState) (fs : List Flat) (ps : List StemPlan)
@@ -123,11 +93,29 @@ among_all : (some keys : List ColumnKey) → AreAmong some keys → AllByRecursi
 among_all [] keys h = tt
 among_all (k ∷ ks) keys h = (h k (here k ks), among_all ks keys (λ l has. h l (there l k ks has)))
 
--- a voice of a system that is not empty, with its seat, its texts and its columns
+-- a voice whose columns rise and are among the keys of its system
+pub record IsSlotted (keys : List ColumnKey) (lengths : List ℕ) (a b : ℕ) (v : DrawnVoice) : Type 0 where
+  pub keyed : (first : ℕ) → keys_of (voice_slots first lengths a b v) ≡ staff_columns true lengths a b v
+  pub rise : Rises (staff_columns true lengths a b v)
+  pub inside : AllByRecursion (Contains keys) (staff_columns true lengths a b v)
+
+each_inside : (keys : List ColumnKey) (ss : List Slot)
+    → AllByRecursion (Contains keys) (keys_of ss) → AllByRecursion (λ s. Contains keys s.key) ss
+each_inside keys [] h = tt
+each_inside keys (s ∷ ss) h = (h.0, each_inside keys ss h.1)
+
+pub slots_ordered : (keys : List ColumnKey) (lengths : List ℕ) (a b : ℕ) (v : DrawnVoice)
+    → IsSlotted keys lengths a b v → IsOrdered keys lengths a b v
+slots_ordered keys lengths a b v is first = (
+  subst Rises (sym (is.keyed first)) is.rise,
+  each_inside keys (voice_slots first lengths a b v)
+      (subst (AllByRecursion (Contains keys)) (sym (is.keyed first)) is.inside),
+)
+
+-- a voice of a system that is not empty, with its seat and its columns
 pub record IsReady (keys : List ColumnKey) (lengths : List ℕ) (a b : ℕ) (v : DrawnVoice) : Type 0 where
   pub some : 1 ≤ length (slice_range v.measures a b)
   pub seated : AllByRecursion (IsSeated (is_lower v.seat)) v.measures
-  pub fits : FitsVoice v
   pub slotted : IsSlotted keys lengths a b v
 
 module _ (s : Score) (t : Timeline) (a b : ℕ) (keys : List ColumnKey) (timed : t ≡ timeline_of s)
@@ -151,7 +139,6 @@ module _ (s : Score) (t : Timeline) (a b : ℕ) (keys : List ColumnKey) (timed :
       record {
         some = some;
         seated = voice_seated v;
-        fits = voice_fits v fine;
         slotted = record {
           keyed = λ first. voice_keyed first t.lengths a b w some (voice_seated v);
           rise =
@@ -160,10 +147,6 @@ module _ (s : Score) (t : Timeline) (a b : ℕ) (keys : List ColumnKey) (timed :
           inside =
               subst (AllByRecursion (Contains keys)) (staff_same t.lengths a b v)
               (among_all (voice_keys t.lengths a b v) keys among);
-          aside =
-              λ first.
-              voice_all first t.lengths AllAside (FitsEvent w.verses) (λ d. IsGoodMeter d.opening.meter)
-              (slots_aside w.verses first t.lengths) a b w (voice_fits v fine);
         };
       }
 

@@ -2,19 +2,17 @@
 use Rattle.std.proofs.Common.{◌≡◌, ◌∙◌, ℕ, ℤ, ◌+◌, Bool, true, false, not, ◌&&◌, ◌==◌, List, [], ◌∷◌, ◌++◌, length}
 use Rattle.std.proofs.Common.{Option, Some, None, is_none, refl, ap, arith}
 use Rattle.std.proofs.lemmas.Bool.{and_parts}
-use Rattle.std.specs.List.{AllByRecursion, flat_map, list_all, slice_index_or, slice_range}
+use Rattle.std.specs.List.{AllByRecursion, flat_map, list_all, slice_range}
 use Rattle.mus_units.specs.declared.note.Deco.{Deco}
 use Rattle.mus_score.specs.declared.score.Flat.{Flat}
 use Rattle.mus_score.specs.declared.score.Mention.{Mention}
 use Rattle.mus_words.specs.Syllables.{syllables_from}
 use Rattle.mus_words.specs.Texts.{above_from, below_from, shown_deco, shown_ending, shown_mention, shown_number}
-use Rattle.mus_words.specs.Texts.{text_marks, texts_above, texts_below}
+use Rattle.mus_words.specs.Texts.{texts_above, texts_below}
 use Rattle.mus_drawn.specs.declared.drawn.{DrawnEvent.DrawnEvent, DrawnMeasure.DrawnMeasure, DrawnVoice.DrawnVoice}
 use Rattle.mus_slots.specs.Voice.{slots_of_voices, written_of}
 use Rattle.mus_slots.proofs.Parts.{OfSlots, columns_all}
 use Rattle.mus_slots.proofs.Words.{AreBlank, IsBlank, nothing_blank}
-use Rattle.mus_marks.specs.declared.events.WordRoom.{WordRoom}
-use Rattle.mus_marks.specs.Events.{no_texts, text_place, words_marks}
 use Rattle.mus_marks.specs.Silent.{are_silent, is_silent, is_silent_staff, is_text}
 
 deco_silent : (below : Bool) (d : Deco) → not (is_text d) ≡ true → shown_deco below d ≡ []
@@ -59,18 +57,6 @@ texts_silent words decos None (t ∷ ts) ms e = grind (arith, e)
 texts_silent words decos (Some t) ts ms e = grind (arith, e)
 
 module _ (f : Flat) (silent : is_silent f ≡ true) where
-  pub words_silent : (place : Option WordRoom) (r : ℕ) → words_marks place r f ≡ []
-  unfolding text_marks texts_above texts_below
-  words_silent None r = refl
-  words_silent (Some place) r =
-      let none = texts_silent f.event.words f.event.decos f.event.ending f.tuplets f.event.mentions silent in
-      let at = text_place place.room (slice_index_or place.before r no_texts) in
-      ap (λ t.
-      t ++ (above_from at.high at.above (texts_above f) ++ below_from at.low at.verses at.below (texts_below f)))
-      (syllables_silent place.room.low place.first f.event.words none.0)
-      ∙ ap (λ t. above_from at.high at.above t ++ below_from at.low at.verses at.below (texts_below f)) none.1
-      ∙ ap (below_from at.low at.verses at.below) none.2
-
   pub written_blank : (first : ℕ) → IsBlank (written_of first f)
   unfolding texts_above texts_below
   written_blank first =

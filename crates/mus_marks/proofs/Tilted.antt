@@ -1,9 +1,7 @@
 -- The same for voices whose stems have other ends: their columns, seats and texts are as they were.
 use Rattle.std.proofs.Common.{◌≡◌, ◌∙◌, ℕ, ℤ, ◌+◌, ◌-◌, ◌≤◌, Bool, true, false, List, [], ◌∷◌, ◌++◌, length}
 use Rattle.std.proofs.Common.{length-drop, length-take, map, take, drop, refl, sym, ap, subst, arith}
-use Rattle.std.proofs.lemmas.List.{drop-map, take-map}
 use Rattle.std.specs.List.{AllByRecursion, Contains, slice_range}
-use Rattle.mus_units.specs.Good.{IsGoodMeter}
 use Rattle.mus_score.specs.Seats.{is_lower}
 use Rattle.mus_onsets.specs.declared.keys.ColumnKey.{ColumnKey}
 use Rattle.mus_onsets.specs.Keys.{bar_key, event_keys, first_keys, head_key, keys_by}
@@ -14,12 +12,9 @@ use Rattle.mus_drawn.specs.declared.drawn.DrawnMeasure.{DrawnMeasure}
 use Rattle.mus_drawn.specs.declared.drawn.DrawnVoice.{DrawnVoice}
 use Rattle.mus_time.specs.Columns.{events_columns, has_old, measures_columns, staff_columns}
 use Rattle.mus_slots.proofs.KeysOf.{IsSeated, voice_keyed}
-use Rattle.mus_slots.proofs.Parts.{voice_all}
-use Rattle.mus_marks.specs.Tilt.{event_ended, measure_ended, over, voice_ended}
-use Rattle.mus_marks.proofs.Ending.{ended_fits, ended_length, flat_event, flat_measure, flat_voice}
-use Rattle.mus_marks.proofs.Parts.{FitsEvent, FitsVoice}
-use Rattle.mus_marks.proofs.Columns.{IsSlotted}
-use Rattle.mus_marks.proofs.Placed.{AllAside, slots_aside}
+use Rattle.mus_bridges.specs.Ends.{event_ended, measure_ended, over, voice_ended}
+use Rattle.mus_marks.proofs.Ending.{ended_length, flat_event, flat_measure, over_all, same_range}
+use Rattle.mus_marks.proofs.Placed.{IsSlotted}
 
 -- ---- columns
 events_flat : (m : ℕ) (in_head : Bool) (es : List DrawnEvent)
@@ -40,12 +35,7 @@ ended_columns : (lengths : List ℕ) (a b : ℕ) (ends : List (List ℤ)) (v : D
     → measures_columns lengths a true (slice_range (voice_ended a ends v).measures a b)
     ≡ measures_columns lengths a true (slice_range v.measures a b)
 ended_columns lengths a b ends v =
-    let columns = λ (ds : List DrawnMeasure). measures_columns lengths a true (slice_range ds a b) in
-    let slice = λ (ds : List DrawnMeasure).
-    ap (take (b - a)) (drop-map flat_measure a ds) ∙ take-map flat_measure (b - a) (drop a ds) in
-    let flat = λ (ds : List DrawnMeasure).
-    ap (measures_columns lengths a true) (slice ds) ∙ measures_flat lengths a true (slice_range ds a b) in
-    sym (flat (voice_ended a ends v).measures) ∙ ap columns (flat_voice a ends v) ∙ flat v.measures
+    same_range (measures_columns lengths a true) (measures_flat lengths a true) a b ends v
 
 ended_staff : (lengths : List ℕ) (a b : ℕ) (ends : List (List ℤ)) (v : DrawnVoice)
     → staff_columns true lengths a b v ≡ staff_columns true lengths a b (voice_ended a ends v)
@@ -54,13 +44,6 @@ ended_staff lengths a b ends v =
     (sym (ended_columns lengths a b ends v))
 
 -- ---- seats, and the number of measures
-over_all : {A B : Type 0} (f : B → A → A) (P : A → Type 0)
-    → ((t : B) (x : A) → P x → P (f t x)) → (ts : List B) (xs : List A) → AllByRecursion P xs
-    → AllByRecursion P (over f ts xs)
-over_all f P keeps [] xs all = all
-over_all f P keeps (t ∷ ts) [] all = tt
-over_all f P keeps (t ∷ ts) (x ∷ xs) all = (keeps t x all.0, over_all f P keeps ts xs all.1)
-
 ended_seated : (lower : Bool) (a : ℕ) (ends : List (List ℤ)) (v : DrawnVoice)
     → AllByRecursion (IsSeated lower) v.measures → AllByRecursion (IsSeated lower) (voice_ended a ends v).measures
 ended_seated lower a ends v seated =
@@ -88,17 +71,13 @@ ended_some a b ends v some =
 
 module _ (keys : List ColumnKey) (lengths : List ℕ) (a b : ℕ) (ends : List (List ℤ)) (v : DrawnVoice) where
   pub ended_slotted : 1 ≤ length (slice_range v.measures a b)
-      → AllByRecursion (IsSeated (is_lower v.seat)) v.measures → FitsVoice v → IsSlotted keys lengths a b v
+      → AllByRecursion (IsSeated (is_lower v.seat)) v.measures → IsSlotted keys lengths a b v
       → IsSlotted keys lengths a b (voice_ended a ends v)
-  ended_slotted some seated fits is =
+  ended_slotted some seated is =
       let w = voice_ended a ends v in
       record {
         keyed = λ first. voice_keyed first lengths a b w (ended_some a b ends v some)
             (ended_seated (is_lower v.seat) a ends v seated);
         rise = subst Rises (ended_staff lengths a b ends v) is.rise;
         inside = subst (AllByRecursion (Contains keys)) (ended_staff lengths a b ends v) is.inside;
-        aside =
-            λ first.
-            voice_all first lengths AllAside (FitsEvent v.verses) (λ d. IsGoodMeter d.opening.meter)
-            (slots_aside v.verses first lengths) a b w (ended_fits v.verses a ends v fits);
       }

@@ -1,5 +1,4 @@
 pub mod Events
-pub mod Places
 pub mod Silent
 pub mod Staff
 pub mod System

@@ -1,19 +1,20 @@
 -- The marks of a system over the abscissas of its columns: like those that the score calls for, but the stems of a
 -- beam end on its line. Marks that depend on the ends of stems (beams, decorations, texts, arcs) follow them.
-use Rattle.std.specs.Prelude.{◌≡◌, ℕ, ◌+◌, ◌^◌, ℤ, pos, ◌≤ℤ◌, ◌<ℤ◌, ◌<◌, ⊤, List, [], ◌∷◌, ◌++◌, length, map, take}
-use Rattle.std.specs.Prelude.{drop, slice_range, slice_index_or}
+use Rattle.std.specs.Prelude.{◌≡◌, ℕ, ◌+◌, ◌^◌, ℤ, pos, ◌≤ℤ◌, ◌<ℤ◌, ◌<◌, ⊤, List, [], ◌∷◌, length, map}
+use Rattle.std.specs.Prelude.{slice_range, slice_index_or}
 use Rattle.mus_score.specs.declared.score.Score.{Score}
 use Rattle.mus_onsets.specs.declared.keys.ColumnKey.{ColumnKey}
 use Rattle.mus_onsets.specs.declared.times.Timeline.{Timeline}
 use Rattle.mus_onsets.specs.Keys.{AreKeys, called_keys}
 use Rattle.mus_stems.specs.declared.slopes.SlopeInput.{SlopeInput}
-use Rattle.mus_stems.specs.Slope.{slope_input, sloped_ends, with_end, AreAnchors, RisesInBeams}
+use Rattle.mus_stems.specs.Slope.{slope_input, sloped_ends, AreAnchors, RisesInBeams}
 use Rattle.mus_laid.specs.declared.laid.StaffMarks.{StaffMarks}
 use Rattle.mus_laid.specs.declared.laid.SystemMarks.{SystemMarks}
 use Rattle.mus_drawn.specs.declared.drawn.DrawnEvent.{DrawnEvent}
 use Rattle.mus_drawn.specs.declared.drawn.DrawnMeasure.{DrawnMeasure}
 use Rattle.mus_drawn.specs.declared.drawn.DrawnVoice.{DrawnVoice}
-use Rattle.mus_marks.specs.{Events.note_rank, Staff.ranked_staff, Staff.staff_marks, System.drawn_staves}
+use Rattle.mus_bridges.specs.Ends.{voice_ended}
+use Rattle.mus_marks.specs.{Events.note_rank, Staff.staff_marks, System.drawn_staves}
 
 -- what the line of its beam needs of an event of measure m; the event's abscissa is that of its column
 abbrev pub anchor_at : List ColumnKey → List ℤ → ℕ → DrawnEvent → SlopeInput
@@ -38,33 +39,6 @@ abbrev pub sloped_over : List ColumnKey → List ℤ → ℕ → List DrawnMeasu
 sloped_over keys at m [] = []
 sloped_over keys at m (d ∷ ds) = ends_over keys at m d.events ∷ sloped_over keys at (m + 1) ds
 
--- f of each element and the list's entry for it; elements without an entry stay unchanged
-abbrev pub over : {A B : Type 0} → (B → A → A) → List B → List A → List A
-over f [] xs = xs
-over f (t ∷ ts) [] = []
-over f (t ∷ ts) (x ∷ xs) = f t x ∷ over f ts xs
-
--- an event, and the events of a measure, with other ends
-abbrev pub event_ended : ℤ → DrawnEvent → DrawnEvent
-event_ended to e = record e { plan = with_end e.plan to }
-
-abbrev pub measure_ended : List ℤ → DrawnMeasure → DrawnMeasure
-measure_ended ends d = record d { events = over event_ended ends d.events }
-
--- a voice whose measures have other ends from number a on, as far as there are other ends
-abbrev pub voice_ended : ℕ → List (List ℤ) → DrawnVoice → DrawnVoice
-voice_ended a ends v = record v { measures = take a v.measures ++ over measure_ended ends (drop a v.measures) }
-
--- the ends that remain when others were put in: the earlier ones
-abbrev pub end_left : DrawnEvent → ℤ → ℤ
-end_left e to = e.plan.to
-
-abbrev pub measure_left : DrawnMeasure → List ℤ → List ℤ
-measure_left d ends = over end_left d.events ends
-
-abbrev pub voice_left : ℕ → DrawnVoice → List (List ℤ) → List (List ℤ)
-voice_left a v ends = over measure_left (drop a v.measures) ends
-
 -- measures a to b - 1 of a voice tilted, all others unchanged
 abbrev pub voice_tilted : List ColumnKey → List ℤ → ℕ → ℕ → DrawnVoice → DrawnVoice
 voice_tilted keys at a b v = voice_ended a (sloped_over keys at a (slice_range v.measures a b)) v
@@ -72,10 +46,6 @@ voice_tilted keys at a b v = voice_ended a (sloped_over keys at a (slice_range v
 -- the marks of a staff whose voices are tilted
 abbrev pub tilted_staff : List ColumnKey → List ℕ → List ℤ → ℕ → ℕ → List DrawnVoice → StaffMarks
 tilted_staff keys lengths at a b voices = staff_marks keys lengths a b (map (voice_tilted keys at a b) voices)
-
--- the same by the ranks of columns
-abbrev pub ranked_tilt : List ColumnKey → List ℕ → List ℤ → ℕ → ℕ → List DrawnVoice → StaffMarks
-ranked_tilt keys lengths at a b voices = ranked_staff keys lengths a b (map (voice_tilted keys at a b) voices)
 
 -- What a score calls for in a system of measures a to b - 1 whose columns are at these abscissas.
 pub record IsTilted (s : Score) (t : Timeline) (a b : ℕ) (at : List ℤ) (m : SystemMarks) : Type 0 where

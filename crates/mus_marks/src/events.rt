@@ -1,51 +1,34 @@
-ghost use Rattle.mus_score.specs.Limits.{head_limit};
-ghost use Rattle.std.specs.Prelude.{◌≡◌, ◌≤◌, ◌++◌, length, map, option_copied, slice_index_or, IfOk, OnOk};
+ghost use Rattle.std.specs.Prelude.{◌≡◌, ◌≤◌, ◌++◌, ◌||◌, drop, length, None, OnOk};
+ghost use Rattle.mus_score.specs.Seats.{is_lower};
 ghost use Rattle.mus_onsets.specs.Ranks.{AreRanked};
-ghost use Rattle.mus_stems.specs.Heads.{AllNear, stand_of};
 ghost use Rattle.mus_laid.specs.Ranked.{inked};
-ghost use Rattle.mus_ink.specs.Decos.{note_marks};
-ghost use Rattle.mus_ink.specs.Graces.{grace_marks};
-ghost use Rattle.mus_drawn.specs.Drawn.{raise_of};
-ghost use Rattle.mus_drawn.specs.Good.{AllCanGrace, AreGoodDrawn, IsGoodDrawn};
-ghost use Rattle.mus_marks.specs.Events.{note_rank, changes_nothing, change_part, graces_from, graces_part, note_part};
-ghost use Rattle.mus_marks.specs.Events.{no_texts, text_place, words_marks, words_part, event_marks, levels_in};
-ghost use Rattle.mus_marks.specs.Events.{levels_after, events_marks};
-ghost use Rattle.mus_marks.specs.Places.{HasVerses};
+ghost use Rattle.mus_drawn.specs.Good.{AreGoodDrawn, IsGoodDrawn};
+ghost use Rattle.mus_bridges.specs.Ends.{ended_events, event_ended};
+ghost use Rattle.mus_slots.specs.Staff.{ink_with, slots_laid};
+ghost use Rattle.mus_slots.specs.Voice.{change_slots, event_marks, events_slots, group_slots, levels_after, levels_in};
+ghost use Rattle.mus_slots.specs.Voice.{written_of};
+ghost use Rattle.mus_slots.specs.Words.{words_in};
+ghost use Rattle.mus_marks.specs.Events.{changes_nothing};
 
 use crate::silence::is_silent;
+use crate::words::put_words_at;
+use mus_bridges::{EndedEvents, end_at};
 use mus_drawn::{DrawnEvent, raise_of};
-use mus_ink::{StemEnd, Group, group_of, put_change, put_grace, put_note};
+use mus_ink::{StemEnd, group_of, put_change, put_grace, put_note};
 use mus_laid::MarkPen;
 use mus_onsets::{Class, ColumnKey};
-use mus_score::{Changes, Event, Flat};
+use mus_score::{Changes, Flat};
 use mus_stems::StemPlan;
 use mus_time::note_key;
-use mus_units::{Clef, Memory, Row};
-use mus_words::{TextPlace, put_syllables, put_texts};
+use mus_units::Memory;
+use mus_words::TextPlace;
 
-/// The room that the other marks of a staff leave to its syllables and texts, which go below `low` and above `high`,
-/// in u; and the staff's number of verses.
-#[derive(Clone, Copy, PartialEq, Eq)]
-pub struct StaffRoom {
-    pub low: i32,
-    pub high: i32,
-    pub verses: u8,
-}
-
-/// The number of texts that a column has above the staff and below it.
-#[derive(Clone, Copy, PartialEq, Eq)]
-pub struct TextCounts {
-    pub above: usize,
-    pub below: usize,
-}
-
-/// Where the words of a voice go: into the room of its staff, its verses from number `first` on, and after the texts
-/// that each column already has, by rank. A column that `before` lacks has none.
-#[derive(Drop)]
-pub struct WordRoom {
-    pub room: StaffRoom,
+/// Where the words of a voice go, whose verses count from `first` on: to `place` in each of its columns, or nowhere.
+#[derive(Clone, Copy)]
+pub struct WordsAt {
     pub first: u8,
-    pub before: Row<TextCounts>,
+    pub place: Option<TextPlace>,
+    pub ghost few: { first ≤ 240 },
 }
 
 /// Returns whether changes have neither clef nor key nor meter.
@@ -55,19 +38,21 @@ pub fn changes_nothing(changes: &Changes) -> bool
     changes.clef.is_none() && changes.key.is_none() && changes.meter.is_none()
 }
 
-/// Draws the change before an event, unless it is already `drawn` by the head or by the voice above.
+/// Draws the change before an event, unless the head or the voice above draws it.
 fn put_change_part(
     pen: &mut MarkPen,
     keys: &[ColumnKey],
     measure: u32,
-    drawn: bool,
+    in_head: bool,
     e: &DrawnEvent<'_>,
 ) -> Result<(), Memory>
     requires keys { AreRanked keys.now }
     requires good { IsGoodDrawn e.now }
-    ensures { OnOk result (pen.new.marks ≡ pen.old.marks ++ change_part keys.now measure drawn e.now) }
+    ensures { OnOk result
+        (pen.new.marks
+        ≡ pen.old.marks ++ slots_laid keys.now None (change_slots measure (in_head || is_lower e.now.seat) e.now)) }
 {
-    if drawn {
+    if in_head || e.seat.is_lower() {
         return Ok(());
     }
     let changes = &e.flat.event().changes;
@@ -78,31 +63,8 @@ fn put_change_part(
     put_change(pen, e.clef, e.old.as_slice(), changes)
 }
 
-/// Draws the graces of a group, each in a column of its own.
+/// Draws the graces before an event, each in a column of its own.
 fn put_graces(
-    pen: &mut MarkPen,
-    keys: &[ColumnKey],
-    measure: u32,
-    tick: u64,
-    clef: Clef,
-    group: Group,
-    graces: &[Event],
-) -> Result<(), Memory>
-    requires keys { AreRanked keys.now }
-    requires few { length graces.now ≤ head_limit }
-    requires good { AllCanGrace clef graces.now }
-    ensures { OnOk result (pen.new.marks ≡ pen.old.marks ++ graces_from keys.now measure tick clef group 0 graces.now) }
-{
-    for (i, grace) in graces.iter().enumerate() {
-        let key = ColumnKey::new(measure, tick, Class::Grace, i as u32);
-        pen.go_to(keys, key);
-        put_grace(pen, clef, group, i == 0, grace)?;
-    }
-    Ok(())
-}
-
-/// Draws the graces before an event.
-fn put_graces_part(
     pen: &mut MarkPen,
     keys: &[ColumnKey],
     measure: u32,
@@ -110,123 +72,58 @@ fn put_graces_part(
 ) -> Result<(), Memory>
     requires keys { AreRanked keys.now }
     requires good { IsGoodDrawn e.now }
-    ensures { OnOk result (pen.new.marks ≡ pen.old.marks ++ graces_part keys.now measure e.now) }
+    ensures { OnOk result (pen.new.marks ≡ pen.old.marks ++ slots_laid keys.now None (group_slots measure e.now)) }
 {
     let graces = e.flat.graces.as_slice();
     let [_, ..] = graces else {
         return Ok(());
     };
     let group = group_of(e.clef, graces, e.flat.slash);
-    put_graces(pen, keys, measure, e.tick, e.clef, group, graces)
-}
-
-/// Returns where the texts of an event go in a column that already has some.
-fn text_place(room: StaffRoom, before: TextCounts) -> TextPlace
-    ensures { result ≡ text_place room before }
-{
-    TextPlace {
-        low: room.low,
-        high: room.high,
-        verses: room.verses,
-        above: before.above,
-        below: before.below,
+    for (i, grace) in graces.iter().enumerate() {
+        pen.go_to(
+            keys,
+            ColumnKey::new(measure, e.tick, Class::Grace, i as u32),
+        );
+        put_grace(pen, e.clef, group, i == 0, grace)?;
     }
+    Ok(())
 }
 
-/// Returns the text counts that the column of a rank already has.
-pub(crate) fn texts_at(before: &[TextCounts], rank: usize) -> TextCounts
-    ensures { result ≡ slice_index_or before.now rank no_texts }
-{
-    before
-        .get(rank)
-        .copied()
-        .unwrap_or(TextCounts { above: 0, below: 0 })
-}
-
-/// Draws the syllables and texts of an event in its column, if their place is known.
-fn put_words(pen: &mut MarkPen, place: Option<&WordRoom>, flat: &Flat<'_>) -> Result<(), Memory>
+/// Draws the words of an event in its column, if they have a place.
+fn put_placed_words(pen: &mut MarkPen, words: WordsAt, flat: &Flat<'_>) -> Result<(), Memory>
     requires words { length flat.now.event.words ≤ 8 }
-    requires verses { HasVerses (option_copied place) }
-    ensures { OnOk result (pen.new ≡ inked pen.old (words_marks (option_copied place.entry) pen.old.rank flat.now)) }
+    ensures { OnOk result (pen.new ≡ inked pen.old (words_in words.place (written_of words.first flat.now))) }
 {
-    let Some(place) = place else {
+    let Some(place) = words.place else {
         return Ok(());
     };
     if is_silent(flat) {
         return Ok(());
     }
-    let words = flat.event().words.as_slice();
-    put_syllables(pen, place.first, place.room.low, words)?;
-    let before = texts_at(place.before.as_slice(), pen.rank as usize);
-    put_texts(pen, text_place(place.room, before), flat)?;
+    put_words_at(pen, place, words.first, flat)?;
     Ok(())
 }
 
-/// Draws an event without its syllables and texts.
-fn draw_note(pen: &mut MarkPen, before: u8, after: u8, e: &DrawnEvent<'_>) -> Result<(), Memory>
+/// Draws an event in its column, its stem up to `to`, with its words if they have a place; `before` and `after` are
+/// the levels of the events beside it in its beam.
+fn put_event(
+    pen: &mut MarkPen,
+    words: WordsAt,
+    before: u8,
+    after: u8,
+    to: i32,
+    e: &DrawnEvent<'_>,
+) -> Result<(), Memory>
+    requires words { length e.now.flat.event.words ≤ 8 }
     ensures { OnOk result
         (pen.new
-        ≡ inked pen.old (note_marks e.now.clef (raise_of e.now.seat) e.now.flat.event e.now.plan before after)) }
+        ≡ inked pen.old
+        (ink_with words.place (event_marks before after (event_ended to e.now)) (written_of words.first e.now.flat))) }
 {
     let (event, plan) = (e.flat.event(), &e.plan);
     let raise = raise_of(e.seat);
-    put_note(
-        pen,
-        e.clef,
-        raise,
-        event,
-        plan,
-        StemEnd { to: plan.to, before, after },
-    )
-}
-
-/// Draws an event in its column, with its syllables and texts if their place is known.
-fn put_note_part(
-    pen: &mut MarkPen,
-    keys: &[ColumnKey],
-    place: Option<&WordRoom>,
-    measure: u32,
-    before: u8,
-    after: u8,
-    e: &DrawnEvent<'_>,
-) -> Result<(), Memory>
-    requires keys { AreRanked keys.now }
-    requires words { length e.now.flat.event.words ≤ 8 }
-    requires verses { HasVerses (option_copied place) }
-    ensures { OnOk result
-        (pen.new.marks
-        ≡ pen.old.marks ++ note_part keys.now measure before after e.now
-        ++ words_part (note_rank keys.now measure e.now) (option_copied place.entry) e.now.flat) }
-{
-    pen.go_to(keys, note_key(measure, e));
-    draw_note(pen, before, after, e)?;
-    put_words(pen, place, &e.flat)
-}
-
-/// Draws an event with the change and the graces before it; `before` and `after` are the levels of the events beside
-/// it in its beam.
-#[tactic(auto, unfolding(crate::specs::Events::event_marks))]
-fn put_event(
-    pen: &mut MarkPen,
-    keys: &[ColumnKey],
-    place: Option<&WordRoom>,
-    measure: u32,
-    in_head: bool,
-    before: u8,
-    after: u8,
-    e: &DrawnEvent<'_>,
-) -> Result<(), Memory>
-    requires keys { AreRanked keys.now }
-    requires good { IsGoodDrawn e.now }
-    requires verses { HasVerses (option_copied place) }
-    ensures { OnOk result
-        (pen.new.marks
-        ≡ pen.old.marks ++ event_marks keys.now (option_copied place.entry) measure in_head before after e.now) }
-{
-    let drawn = in_head || e.seat.is_lower();
-    put_change_part(pen, keys, measure, drawn, e)?;
-    put_graces_part(pen, keys, measure, e)?;
-    put_note_part(pen, keys, place, measure, before, after, e)
+    put_note(pen, e.clef, raise, event, plan, StemEnd { to, before, after })?;
+    put_placed_words(pen, words, &e.flat)
 }
 
 /// Returns the levels of an event that are in a plan's beam.
@@ -246,33 +143,52 @@ fn levels_after(plan: &StemPlan, following: &[DrawnEvent<'_>]) -> u8
     }
 }
 
+/// Returns the ends of the events after the first.
+fn after_first(ends: &[i32]) -> &[i32]
+    ensures { result.now ≡ drop 1 ends.now }
+{
+    match ends {
+        [] => ends,
+        [_, more @ ..] => more,
+    }
+}
+
 /// Draws the events of a measure, each with the change and the graces before it; the first without its change if the
-/// head draws that. Syllables and texts are drawn if their place is known.
+/// head draws that.
 pub(crate) fn put_events(
     pen: &mut MarkPen,
     keys: &[ColumnKey],
-    place: Option<&WordRoom>,
+    words: WordsAt,
     measure: u32,
     in_head: bool,
-    events: &[DrawnEvent<'_>],
+    events: EndedEvents<'_>,
 ) -> Result<(), Memory>
     requires keys { AreRanked keys.now }
-    requires good { AreGoodDrawn events.now }
-    requires verses { HasVerses (option_copied place) }
+    requires good { AreGoodDrawn events.events.now }
     ensures { OnOk result
         (pen.new.marks
-        ≡ pen.old.marks ++ events_marks keys.now (option_copied place.entry) measure in_head 0 0 events.now) }
+        ≡ pen.old.marks
+        ++ slots_laid keys.now words.place
+        (events_slots words.first measure in_head 0 0 (ended_events events.entry))) }
 {
-    let mut rest = events;
+    let EndedEvents {
+        events: mut rest,
+        mut ends,
+    } = events;
     let (mut drawn, mut group, mut flags) = (in_head, 0, 0);
     while let [e, following @ ..] = rest {
+        put_change_part(pen, keys, measure, drawn, e)?;
+        put_graces(pen, keys, measure, e)?;
         let before = levels_in(&e.plan, group, flags);
         let after = levels_after(&e.plan, following);
-        put_event(pen, keys, place, measure, drawn, before, after, e)?;
+        pen.go_to(keys, note_key(measure, e));
+        let to = end_at(ends, 0, e);
+        put_event(pen, words, before, after, to, e)?;
         drawn = false;
         group = e.plan.group;
         flags = e.plan.flags;
         rest = following;
+        ends = after_first(ends);
     }
     Ok(())
 }

@@ -10,8 +10,8 @@ pub mod systems;
 pub mod tilting;
 pub mod words;
 
-pub use events::{StaffRoom, TextCounts, WordRoom, changes_nothing};
-pub use measures::{put_columns_part, put_measures};
+pub use events::{WordsAt, changes_nothing};
+pub use measures::put_own_voice;
 pub use mus_drawn::{Sound, sounding};
 pub use mus_laid::{Laid, Lane, Mark, Size, StaffMarks, SystemMarks, Way};
 pub use mus_time::draw_voices;

@@ -1,17 +1,19 @@
 ghost use Rattle.mus_score.specs.Limits.{measure_limit};
-ghost use Rattle.std.specs.Prelude.{◌≡◌, ◌≤◌, ◌<◌, ◌+◌, ◌++◌, length, map, option_copied, OnOk};
+ghost use Rattle.std.specs.Prelude.{◌≡◌, ◌≤◌, ◌<◌, ◌+◌, ◌++◌, length, None, OnOk};
 ghost use Rattle.{mus_onsets.specs.{Keys.has_features, Ranks.AreRanked}, mus_drawn.specs.Good.{AreGoodMeasures}};
-ghost use Rattle.mus_marks.specs.Events.{bar_part, measures_marks};
-ghost use Rattle.mus_marks.specs.Places.{HasVerses};
-ghost use Rattle.mus_marks.specs.Staff.{meter_shown, head_part, first_bar_part, columns_part};
+ghost use Rattle.mus_bridges.specs.Ends.{measure_ended, over, voice_ended};
+ghost use Rattle.mus_slots.specs.Staff.{slots_laid};
+ghost use Rattle.mus_slots.specs.Voice.{bar_slots, first_slots, head_slots, measures_slots, meter_shown, range_slots};
 
-use crate::events::{WordRoom, put_events};
-use mus_drawn::{DrawnMeasure, SystemOpening};
+use crate::events::{WordsAt, put_events};
+use mus_bridges::{EndedEvents, ends_at};
+use mus_drawn::{DrawnMeasure, DrawnVoice, SystemOpening};
 use mus_ink::{put_bar, put_head};
 use mus_laid::MarkPen;
 use mus_onsets::{Class, ColumnKey};
 use mus_score::Seat;
-use mus_units::{Bar, Memory, Meter};
+use mus_time::SystemFrame;
+use mus_units::{Bar, Memory, Meter, Row};
 
 /// The number of marks that is enough for most events and bars; room for it is reserved at once.
 const MARKS_OF_EVENT: usize = 4;
@@ -26,7 +28,8 @@ fn put_bar_part(
 ) -> Result<(), Memory>
     requires keys { AreRanked keys.now }
     requires inside { measure < length lengths.now }
-    ensures { OnOk result (pen.new.marks ≡ pen.old.marks ++ bar_part keys.now lengths.now measure d.now) }
+    ensures { OnOk result
+        (pen.new.marks ≡ pen.old.marks ++ slots_laid keys.now None (bar_slots lengths.now measure d.now)) }
 {
     if d.seat.is_lower() {
         return Ok(());
@@ -45,33 +48,32 @@ fn room_for(measures: &[DrawnMeasure<'_>]) -> usize {
     events.saturating_mul(MARKS_OF_EVENT)
 }
 
-/// Draws the events and bars of measures of a system, from number `a` on, by the ranks of the keys. Leaves out the
-/// change before the first event of the first measure if the head of the system draws it. Syllables and texts are
-/// drawn if their place is known. The only error is out of memory.
-pub fn put_measures(
+/// Draws the events and bars of measures of a system, from its first on. Leaves out the change before the first event
+/// if the head of the system draws it.
+fn put_measures(
     pen: &mut MarkPen,
-    keys: &[ColumnKey],
-    lengths: &[u64],
-    place: Option<&WordRoom>,
-    a: u32,
+    frame: &SystemFrame<'_>,
+    words: WordsAt,
     in_head: bool,
+    ends: &[Row<i32>],
     measures: &[DrawnMeasure<'_>],
 ) -> Result<(), Memory>
-    requires keys { AreRanked keys.now }
-    requires fits { a + length measures.now ≤ length lengths.now }
-    requires few { length lengths.now ≤ measure_limit }
+    requires fits { frame.now.a + length measures.now ≤ length frame.now.lengths.now }
     requires good { AreGoodMeasures measures.now }
-    requires verses { HasVerses (option_copied place) }
     ensures { OnOk result
         (pen.new.marks
-        ≡ pen.old.marks ++ measures_marks keys.now lengths.now (option_copied place.entry) a in_head measures.now) }
+        ≡ pen.old.marks
+        ++ slots_laid frame.now.keys.now words.place
+        (measures_slots words.first frame.now.lengths.now frame.now.a in_head
+        (over measure_ended ends.now measures.now))) }
 {
-    let mut measure = a;
+    let mut measure = frame.a;
     let mut in_head = in_head;
-    for d in measures {
-        let events = d.events.as_slice();
-        put_events(pen, keys, place, measure, in_head, events)?;
-        put_bar_part(pen, keys, lengths, measure, d)?;
+    for (i, d) in measures.iter().enumerate() {
+        let (events, ends) = (d.events.as_slice(), ends_at(ends, i));
+        let events = EndedEvents { events, ends };
+        put_events(pen, frame.keys, words, measure, in_head, events)?;
+        put_bar_part(pen, frame.keys, frame.lengths, measure, d)?;
         in_head = false;
         measure += 1;
     }
@@ -98,7 +100,7 @@ fn put_head_part(
 ) -> Result<(), Memory>
     requires keys { AreRanked keys.now }
     requires good { AreGoodMeasures measures.now }
-    ensures { OnOk result (pen.new.marks ≡ pen.old.marks ++ head_part keys.now a measures.now) }
+    ensures { OnOk result (pen.new.marks ≡ pen.old.marks ++ slots_laid keys.now None (head_slots a measures.now)) }
 {
     let [first, ..] = measures else {
         return Ok(());
@@ -128,7 +130,7 @@ fn put_first_part(
     bar: Bar,
 ) -> Result<(), Memory>
     requires { AreRanked keys.now }
-    ensures { OnOk result (pen.new.marks ≡ pen.old.marks ++ first_bar_part keys.now a seat bar) }
+    ensures { OnOk result (pen.new.marks ≡ pen.old.marks ++ slots_laid keys.now None (first_slots a seat bar)) }
 {
     if seat.is_lower() || a != 0 || !is_featured(bar) {
         return Ok(());
@@ -137,30 +139,53 @@ fn put_first_part(
     put_bar(pen, bar)
 }
 
-/// Draws what is in the columns of a system from measure `a` on: its head, the bar before the first measure, its
-/// events and its bars. A lower voice of a staff has events only. The only error is out of memory.
-#[tactic(auto, unfolding(crate::specs::Staff::columns_part))]
-pub fn put_columns_part(
+/// Draws what a voice has in the columns of a frame: its events and its bars, and before them the head of the system
+/// and the bar before the first measure if the system `begins` there. A lower voice of a staff has events only. Its
+/// stems end at `ends`, measure by measure; an event without an entry keeps its own end.
+pub(crate) fn put_voice(
     pen: &mut MarkPen,
-    keys: &[ColumnKey],
-    lengths: &[u64],
-    place: Option<&WordRoom>,
-    a: u32,
-    seat: Seat,
-    first: Bar,
-    measures: &[DrawnMeasure<'_>],
+    frame: &SystemFrame<'_>,
+    begins: bool,
+    words: WordsAt,
+    ends: &[Row<i32>],
+    v: &DrawnVoice<'_>,
 ) -> Result<(), Memory>
-    requires keys { AreRanked keys.now }
-    requires fits { a + length measures.now ≤ length lengths.now }
-    requires few { length lengths.now ≤ measure_limit }
-    requires good { AreGoodMeasures measures.now }
-    requires verses { HasVerses (option_copied place) }
+    requires lengths { length v.now.measures ≡ length frame.now.lengths.now }
+    requires good { AreGoodMeasures v.now.measures }
     ensures { OnOk result
         (pen.new.marks
-        ≡ pen.old.marks ++ columns_part keys.now lengths.now (option_copied place.entry) a seat first measures.now) }
+        ≡ pen.old.marks
+        ++ slots_laid frame.now.keys.now words.place
+        (range_slots begins frame.now.lengths.now frame.now.a frame.now.b words.first
+        (voice_ended frame.now.a ends.now v.now))) }
 {
+    let a = frame.a;
+    let measures = &v.measures.as_slice()[a as usize..frame.b as usize];
+    if !begins {
+        return put_measures(pen, frame, words, false, ends, measures);
+    }
     pen.marks.items.reserve(room_for(measures))?;
-    put_head_part(pen, keys, a, measures)?;
-    put_first_part(pen, keys, a, seat, first)?;
-    put_measures(pen, keys, lengths, place, a, true, measures)
+    put_head_part(pen, frame.keys, a, measures)?;
+    put_first_part(pen, frame.keys, a, v.seat, v.first)?;
+    put_measures(pen, frame, words, true, ends, measures)
+}
+
+/// Draws what a voice has in the columns of a frame, as in `marks`: its events and its bars, and before them the head
+/// of the system and the bar before the first measure if the system `begins` there. The only error is out of memory.
+pub fn put_own_voice(
+    pen: &mut MarkPen,
+    frame: &SystemFrame<'_>,
+    begins: bool,
+    words: WordsAt,
+    v: &DrawnVoice<'_>,
+) -> Result<(), Memory>
+    requires lengths { length v.now.measures ≡ length frame.now.lengths.now }
+    requires good { AreGoodMeasures v.now.measures }
+    ensures { OnOk result
+        (pen.new.marks
+        ≡ pen.old.marks
+        ++ slots_laid frame.now.keys.now words.place
+        (range_slots begins frame.now.lengths.now frame.now.a frame.now.b words.first v.now)) }
+{
+    put_voice(pen, frame, begins, words, &[], v)
 }

@@ -1,19 +1,21 @@
-ghost use Rattle.std.specs.Prelude.{◌≡◌, ◌≤◌, ◌+◌, ◌++◌, length, map, flat_map, option_copied, None, All, IfOk, OnOk};
+ghost use Rattle.std.specs.Prelude.{◌≡◌, ◌≤◌, ◌+◌, ◌++◌, [], drop, length, map, flat_map, slice_index_or, All, IfOk};
 ghost use Rattle.std.specs.List.{prefix_len};
 ghost use Rattle.mus_score.specs.Seats.{grouped};
 ghost use Rattle.mus_laid.specs.Boxes.{staff_heights};
 ghost use Rattle.mus_drawn.specs.Good.{AreGoodMeasures};
+ghost use Rattle.mus_onsets.specs.Ranks.{AreRanked};
+ghost use Rattle.mus_laid.specs.Ranked.{bridge_at};
 ghost use Rattle.mus_bridges.specs.Bridges.{bridges_of};
-ghost use Rattle.mus_slots.specs.Staff.{bare_laid, place_outside, place_over, staff_columns};
+ghost use Rattle.mus_bridges.specs.Ends.{over, voice_ended};
+ghost use Rattle.mus_slots.specs.Staff.{bare_slots, place_outside, place_over, staff_columns};
 ghost use Rattle.mus_slots.specs.Voice.{slots_of_voices};
 ghost use Rattle.mus_slots.specs.Words.{IsOrdered, with_words};
-ghost use Rattle.mus_marks.specs.Places.{HasVerses};
 ghost use Rattle.mus_marks.specs.Silent.{is_silent_staff};
-ghost use Rattle.mus_marks.specs.Staff.{CoversLines, own_part, staff_marks, staff_over, verses_on};
+ghost use Rattle.mus_marks.specs.Staff.{CoversLines, staff_marks, staff_over, verses_on};
 ghost use Rattle.mus_marks.specs.System.{is_drawn_lower};
 
-use crate::events::WordRoom;
-use crate::measures::put_columns_part;
+use crate::events::WordsAt;
+use crate::measures::put_voice;
 use crate::silence::are_silent;
 use crate::words::words_of;
 use mus_bridges::put_bridges_of;
@@ -32,41 +34,34 @@ use std::alloc::Global;
 /// The number of beams and arcs that is enough for most measures; room for it is reserved at once.
 const BRIDGES_OF_MEASURE: usize = 4;
 
-/// Draws what a voice has in the columns of a system, with syllables and texts if their place is known.
-fn put_own_part(
-    pen: &mut MarkPen,
-    frame: &SystemFrame<'_>,
-    place: Option<&WordRoom>,
-    v: &DrawnVoice<'_>,
-) -> Result<(), Memory>
-    requires lengths { length v.now.measures ≡ length frame.now.lengths.now }
-    requires good { AreGoodMeasures v.now.measures }
-    requires verses { HasVerses (option_copied place) }
-    ensures { OnOk result
-        (pen.new.marks
-        ≡ pen.old.marks
-        ++ own_part frame.now.keys.now frame.now.lengths.now (option_copied place.entry) frame.now.a frame.now.b
-        v.now) }
+/// Returns the ends of stems of the i-th voice: none if there are none for it.
+fn voice_ends_at(ends: &[Row<Row<i32>>], i: usize) -> &[Row<i32>]
+    ensures { result.now ≡ slice_index_or ends.now i [] }
 {
-    let (keys, lengths, a) = (frame.keys, frame.lengths, frame.a);
-    let measures = &v.measures.as_slice()[a as usize..frame.b as usize];
-    put_columns_part(pen, keys, lengths, place, a, v.seat, v.first, measures)
+    match ends.get(i) {
+        Some(own) => own.as_slice(),
+        None => &[],
+    }
 }
 
 /// Returns what voices have between columns, one voice after another.
 fn bridges_on(
     alloc: Global,
     frame: &SystemFrame<'_>,
+    ends: &[Row<Row<i32>>],
     voices: &[DrawnVoice<'_>],
 ) -> Result<Row<Bridge>, Memory>
     requires each { All (λ v. length v.measures ≡ length frame.now.lengths.now) voices.now }
     requires good { All (λ v. AreGoodMeasures v.measures) voices.now }
-    ensures { IfOk result (λ r. r ≡ flat_map (bridges_of frame.now.lengths.now frame.now.a frame.now.b) voices.now) }
+    ensures { IfOk result (λ r.
+        r
+        ≡ flat_map (bridges_of frame.now.lengths.now frame.now.a frame.now.b)
+        (over (voice_ended frame.now.a) ends.now voices.now)) }
 {
     let measures = (frame.b - frame.a) as usize;
     let mut out = Row::with_room(alloc, measures * BRIDGES_OF_MEASURE)?;
-    for v in voices {
-        put_bridges_of(&mut out, frame, v)?;
+    for (i, v) in voices.iter().enumerate() {
+        put_bridges_of(alloc, &mut out, frame, voice_ends_at(ends, i), v)?;
     }
     Ok(out)
 }
@@ -75,18 +70,29 @@ fn bridges_on(
 fn bare_parts(
     alloc: Global,
     frame: &SystemFrame<'_>,
+    ends: &[Row<Row<i32>>],
     voices: &[DrawnVoice<'_>],
 ) -> Result<Row<Row<Laid>>, Memory>
     requires each { All (λ v. length v.measures ≡ length frame.now.lengths.now) voices.now }
     requires good { All (λ v. AreGoodMeasures v.measures) voices.now }
+    requires verses { verses_on voices.now ≤ 128 }
     ensures { IfOk result
-        (λ r. r ≡ map (own_part frame.now.keys.now frame.now.lengths.now None frame.now.a frame.now.b) voices.now) }
+        (λ r. r
+        ≡ map (bare_slots frame.now.keys.now)
+        (slots_of_voices 0 frame.now.lengths.now frame.now.a frame.now.b
+        (over (voice_ended frame.now.a) ends.now voices.now))) }
 {
     let mut parts = Row::with_room(alloc, voices.len())?;
-    for v in voices {
+    let mut verse = 0;
+    for (i, v) in voices.iter().enumerate() {
         let mut pen = MarkPen::new(alloc);
-        put_own_part(&mut pen, frame, None, v)?;
+        let words = WordsAt {
+            first: verse,
+            place: None,
+        };
+        put_voice(&mut pen, frame, true, words, voice_ends_at(ends, i), v)?;
         parts.push(pen.marks)?;
+        verse += v.verses;
     }
     Ok(parts)
 }
@@ -153,28 +159,22 @@ fn place_over(verses: u8, heights: HeightRange) -> TextPlace
     }
 }
 
-/// Returns the place of the first words of each column of a staff; `parts` are its other marks in columns, and
-/// `bridges` its marks between columns.
+/// Returns the place of the first words of each column of a staff with this number of verses; `parts` are its other
+/// marks in columns, and `bridges` its marks between columns.
 fn place_on(
     alloc: Global,
-    frame: &SystemFrame<'_>,
-    voices: &[DrawnVoice<'_>],
+    keys: &[ColumnKey],
+    verses: u8,
     parts: &[Row<Laid>],
     bridges: &[Bridge],
 ) -> Result<TextPlace, Memory>
-    requires verses { verses_on voices.now ≤ 128 }
-    requires parts { parts.now
-        ≡ map (own_part frame.now.keys.now frame.now.lengths.now None frame.now.a frame.now.b) voices.now }
-    requires bridges { bridges.now ≡ flat_map (bridges_of frame.now.lengths.now frame.now.a frame.now.b) voices.now }
+    requires { AreRanked keys.now }
     ensures { IfOk result
-        (λ p. p
-        ≡ place_outside (verses_on voices.now)
-        (bare_laid frame.now.keys.now (slots_of_voices 0 frame.now.lengths.now frame.now.a frame.now.b voices.now))) }
+        (λ p. p ≡ place_outside verses (flat_map (λ part. part) parts.now ++ map (bridge_at keys.now) bridges.now)) }
 {
     let mut between = Row::new(alloc);
-    put_bridges(&mut between, frame.keys, bridges)?;
-    let heights = heights_on(parts, between.as_slice());
-    Ok(place_over(verses_on(voices), heights))
+    put_bridges(&mut between, keys, bridges)?;
+    Ok(place_over(verses, heights_on(parts, between.as_slice())))
 }
 
 /// Returns a place in each column of a system.
@@ -224,45 +224,56 @@ fn with_words(
 fn columns_on(
     alloc: Global,
     frame: &SystemFrame<'_>,
+    ends: &[Row<Row<i32>>],
     voices: &[DrawnVoice<'_>],
     bridges: &[Bridge],
 ) -> Result<Row<Laid>, Memory>
     requires each { All (λ v. length v.measures ≡ length frame.now.lengths.now) voices.now }
     requires good { All (λ v. AreGoodMeasures v.measures) voices.now }
     requires verses { verses_on voices.now ≤ 128 }
-    requires ordered { All (IsOrdered frame.now.keys.now frame.now.lengths.now frame.now.a frame.now.b) voices.now }
-    requires bridges { bridges.now ≡ flat_map (bridges_of frame.now.lengths.now frame.now.a frame.now.b) voices.now }
+    requires ordered { All (IsOrdered frame.now.keys.now frame.now.lengths.now frame.now.a frame.now.b)
+        (over (voice_ended frame.now.a) ends.now voices.now) }
+    requires bridges { bridges.now
+        ≡ flat_map (bridges_of frame.now.lengths.now frame.now.a frame.now.b)
+        (over (voice_ended frame.now.a) ends.now voices.now) }
     ensures { IfOk result
         (λ r. r
         ≡ staff_columns frame.now.keys.now (verses_on voices.now)
-        (slots_of_voices 0 frame.now.lengths.now frame.now.a frame.now.b voices.now)) }
+        (slots_of_voices 0 frame.now.lengths.now frame.now.a frame.now.b
+        (over (voice_ended frame.now.a) ends.now voices.now))) }
 {
-    let parts = bare_parts(alloc, frame, voices)?;
+    let parts = bare_parts(alloc, frame, ends, voices)?;
     if is_silent_staff(frame, voices) {
         return by_columns(alloc, frame.keys.len(), parts);
     }
-    let place = place_on(alloc, frame, voices, parts.as_slice(), bridges)?;
+    let verses = verses_on(voices);
+    let place = place_on(alloc, frame.keys, verses, parts.as_slice(), bridges)?;
     let parts = with_words(alloc, frame, place, parts, voices)?;
     by_columns(alloc, frame.keys.len(), parts)
 }
 
-/// Returns the marks of the staff of these voices.
+/// Returns the marks of the staff of these voices, whose stems end at `ends`, voice by voice; what has no entry there
+/// keeps its own end.
 fn staff_marks(
     alloc: Global,
     frame: &SystemFrame<'_>,
+    ends: &[Row<Row<i32>>],
     voices: &[DrawnVoice<'_>],
 ) -> Result<StaffMarks, Memory>
     requires each { All (λ v. length v.measures ≡ length frame.now.lengths.now) voices.now }
     requires good { All (λ v. AreGoodMeasures v.measures) voices.now }
     requires verses { verses_on voices.now ≤ 128 }
-    requires ordered { All (IsOrdered frame.now.keys.now frame.now.lengths.now frame.now.a frame.now.b) voices.now }
+    requires ordered { All (IsOrdered frame.now.keys.now frame.now.lengths.now frame.now.a frame.now.b)
+        (over (voice_ended frame.now.a) ends.now voices.now) }
     ensures staff { IfOk result
-        (λ r. r ≡ staff_marks frame.now.keys.now frame.now.lengths.now frame.now.a frame.now.b voices.now) }
+        (λ r. r
+        ≡ staff_marks frame.now.keys.now frame.now.lengths.now frame.now.a frame.now.b
+        (over (voice_ended frame.now.a) ends.now voices.now)) }
     ensures lines { IfOk result CoversLines }
 {
-    let bridges = bridges_on(alloc, frame, voices)?;
+    let bridges = bridges_on(alloc, frame, ends, voices)?;
     let bridges = bridges.as_slice();
-    let mut marks = columns_on(alloc, frame, voices, bridges)?;
+    let mut marks = columns_on(alloc, frame, ends, voices, bridges)?;
     put_bridges(&mut marks, frame.keys, bridges)?;
     Ok(staff_over(marks))
 }
@@ -282,28 +293,42 @@ pub fn lower_count(voices: &[DrawnVoice<'_>]) -> usize
     count
 }
 
-/// Returns the staves of voices.
+/// Returns the ends of stems of the voices after the first `count`.
+fn ends_after(ends: &[Row<Row<i32>>], count: usize) -> &[Row<Row<i32>>]
+    ensures { result.now ≡ drop count ends.now }
+{
+    if count < ends.len() {
+        &ends[count..]
+    } else {
+        &[]
+    }
+}
+
+/// Returns the staves of voices, whose stems end at `ends`, voice by voice; what has no entry there keeps its own end.
 pub(crate) fn staves(
     alloc: Global,
     frame: &SystemFrame<'_>,
+    ends: &[Row<Row<i32>>],
     voices: &[DrawnVoice<'_>],
 ) -> Result<Row<StaffMarks>, Memory>
     requires each { All (λ v. length v.measures ≡ length frame.now.lengths.now) voices.now }
     requires good { All (λ v. AreGoodMeasures v.measures) voices.now }
     requires verses { verses_on voices.now ≤ 128 }
-    requires ordered { All (IsOrdered frame.now.keys.now frame.now.lengths.now frame.now.a frame.now.b) voices.now }
+    requires ordered { All (IsOrdered frame.now.keys.now frame.now.lengths.now frame.now.a frame.now.b)
+        (over (voice_ended frame.now.a) ends.now voices.now) }
     ensures staves { IfOk result (λ r.
         r
         ≡ map (staff_marks frame.now.keys.now frame.now.lengths.now frame.now.a frame.now.b)
-        (grouped is_drawn_lower voices.now)) }
+        (grouped is_drawn_lower (over (voice_ended frame.now.a) ends.now voices.now))) }
     ensures lines { IfOk result (All CoversLines) }
 {
     let mut staves = Row::new(alloc);
-    let mut rest = voices;
+    let (mut rest, mut left) = (voices, ends);
     while let [_, following @ ..] = rest {
         let count = lower_count(following) + 1;
-        staves.push(staff_marks(alloc, frame, &rest[..count])?)?;
+        staves.push(staff_marks(alloc, frame, left, &rest[..count])?)?;
         rest = &rest[count..];
+        left = ends_after(left, count);
     }
     Ok(staves)
 }

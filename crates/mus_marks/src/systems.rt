@@ -43,7 +43,7 @@ pub fn marks_of(
         a,
         b,
     };
-    let staves = staves(alloc, &frame, voices)?;
+    let staves = staves(alloc, &frame, &[], voices)?;
     Ok(SystemMarks { a, b, keys, staves })
 }
 

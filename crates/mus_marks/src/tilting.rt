@@ -12,8 +12,7 @@ ghost use Rattle.mus_laid.specs.Boxes.{AreGoodMarks};
 ghost use Rattle.mus_laid.specs.Shapes.{HaveSameShapes};
 ghost use Rattle.mus_marks.specs.Staff.{CoversLines, verses_on};
 ghost use Rattle.mus_marks.specs.System.{IsCall, is_drawn_lower};
-ghost use Rattle.mus_marks.specs.Tilt.{CanTilt, AllCanTilt, ends_over, sloped_over, over, event_ended, end_left};
-ghost use Rattle.mus_marks.specs.Tilt.{measure_ended, measure_left, voice_ended, voice_left, voice_tilted};
+ghost use Rattle.mus_marks.specs.Tilt.{AllCanTilt, CanTilt, ends_over, sloped_over, voice_tilted};
 ghost use Rattle.mus_slots.specs.Words.{IsOrdered};
 ghost use Rattle.mus_marks.specs.Tilt.{AreAbscissas, IsTilted, tilted_staff};
 
@@ -26,7 +25,6 @@ use mus_stems::{SlopeInput, ends_for};
 use mus_time::{SystemFrame, draw_voices, note_key, system_keys};
 use mus_units::{Memory, Row};
 use std::alloc::Global;
-use std::mem;
 
 /// The number of events that is enough for most measures; room for it is reserved at once.
 const EVENTS_OF_MEASURE: usize = 16;
@@ -115,107 +113,39 @@ fn sloped_voices(
     Ok(ends)
 }
 
-/// Swaps the end of an event with another.
-fn exchange_end(e: &mut DrawnEvent<'_>, to: &mut i32)
-    ensures event { e.exit.now ≡ event_ended to.entry.now e.entry.now }
-    ensures end { to.exit.now ≡ end_left e.entry.now to.entry.now }
-{
-    mem::swap(&mut e.plan.to, to);
-}
-
-/// Swaps the ends of events with others.
-fn exchange_ends(events: &mut [DrawnEvent<'_>], ends: &mut [i32])
-    ensures events { events.new ≡ over event_ended ends.old events.old }
-    ensures ends { ends.new ≡ over end_left events.old ends.old }
-{
-    for (i, e) in events.iter_mut().enumerate() {
-        if i < ends.len() {
-            exchange_end(e, &mut ends[i]);
-        }
-    }
-}
-
-fn exchange_measure(d: &mut DrawnMeasure<'_>, ends: &mut Row<i32>)
-    ensures measure { d.new ≡ measure_ended ends.old d.old }
-    ensures ends { ends.new ≡ measure_left d.old ends.old }
-{
-    let events = d.events.items.as_mut_slice();
-    exchange_ends(events, ends.items.as_mut_slice());
-}
-
-/// Swaps the ends of the events of measures with others.
-fn exchange_measures(measures: &mut [DrawnMeasure<'_>], ends: &mut [Row<i32>])
-    ensures measures { measures.new ≡ over measure_ended ends.old measures.old }
-    ensures ends { ends.new ≡ over measure_left measures.old ends.old }
-{
-    for (i, d) in measures.iter_mut().enumerate() {
-        if i < ends.len() {
-            exchange_measure(d, &mut ends[i]);
-        }
-    }
-}
-
-/// Swaps the ends of the events of a voice with others, from measure `a` on.
-fn exchange_voice(v: &mut DrawnVoice<'_>, a: u32, ends: &mut Row<Row<i32>>)
-    requires { a ≤ length v.old.measures }
-    ensures voice { v.new ≡ voice_ended a ends.old v.old }
-    ensures ends { ends.new ≡ voice_left a v.old ends.old }
-{
-    let measures = &mut v.measures.items.as_mut_slice()[a as usize..];
-    exchange_measures(measures, ends.items.as_mut_slice());
-}
-
-/// Swaps the ends of the events of voices with others, from measure `a` on.
-fn exchange_voices(voices: &mut [DrawnVoice<'_>], a: u32, ends: &mut [Row<Row<i32>>])
-    requires { All (λ v. a ≤ length v.measures) voices.old }
-    ensures voices { voices.new ≡ over (voice_ended a) ends.old voices.old }
-    ensures ends { ends.new ≡ over (voice_left a) voices.old ends.old }
-{
-    for (i, v) in voices.iter_mut().enumerate() {
-        if i < ends.len() {
-            exchange_voice(v, a, &mut ends[i]);
-        }
-    }
-}
-
-/// Returns the staves of voices over abscissas. The voices are left unchanged.
+/// Returns the staves of voices over abscissas.
 fn tilted_staves(
     alloc: Global,
     frame: &SystemFrame<'_>,
     at: &[i64],
-    voices: &mut [DrawnVoice<'_>],
+    voices: &[DrawnVoice<'_>],
 ) -> Result<Row<StaffMarks>, Memory>
-    requires each { All (λ v. length v.measures ≡ length frame.now.lengths.now) voices.old }
-    requires good { All (λ v. AreGoodMeasures v.measures) voices.old }
-    requires verses { verses_on voices.old ≤ 128 }
+    requires each { All (λ v. length v.measures ≡ length frame.now.lengths.now) voices.now }
+    requires good { All (λ v. AreGoodMeasures v.measures) voices.now }
+    requires verses { verses_on voices.now ≤ 128 }
     requires slopes { All
         (λ v. AllCanTilt frame.now.keys.now at.now frame.now.a (slice_range v.measures frame.now.a frame.now.b))
-        voices.old }
+        voices.now }
     requires ordered { All
         (λ v. IsOrdered frame.now.keys.now frame.now.lengths.now frame.now.a frame.now.b
         (voice_tilted frame.now.keys.now at.now frame.now.a frame.now.b v))
-        voices.old }
-    ensures kept { voices.new ≡ voices.old }
+        voices.now }
     ensures staves { IfOk result (λ r.
         r
         ≡ map (tilted_staff frame.now.keys.now frame.now.lengths.now at.now frame.now.a frame.now.b)
-        (grouped is_drawn_lower voices.old)) }
+        (grouped is_drawn_lower voices.now)) }
     ensures lines { IfOk result (All CoversLines) }
 {
-    let mut ends = sloped_voices(alloc, frame, at, voices)?;
-    exchange_voices(voices, frame.a, ends.items.as_mut_slice());
-    let staves = staves(alloc, frame, voices);
-    exchange_voices(voices, frame.a, ends.items.as_mut_slice());
-    staves
+    let ends = sloped_voices(alloc, frame, at, voices)?;
+    staves(alloc, frame, ends.as_slice(), voices)
 }
 
 /// Returns the marks of the system of measures `a` to `b` - 1 over the abscissas of its columns, whose keys are
-/// `keys`, like `tilt`, from the voices of the score as already drawn. The voices are left unchanged. The only error
-/// is out of memory.
+/// `keys`, like `tilt`, from the voices of the score as already drawn. The only error is out of memory.
 pub fn tilt_of(
     alloc: Global,
     s: &Score,
-    voices: &mut [DrawnVoice<'_>],
+    voices: &[DrawnVoice<'_>],
     t: &Timeline,
     a: u32,
     b: u32,
@@ -226,11 +156,10 @@ pub fn tilt_of(
     requires times { t.now ≡ timeline_of s.now }
     requires order { a < b }
     requires within { b ≤ s.now.measures }
-    requires voices { voices.old ≡ map drawn_voice s.now.voices }
-    requires drawn { All (λ v. AreGoodMeasures v.measures) voices.old }
+    requires voices { voices.now ≡ map drawn_voice s.now.voices }
+    requires drawn { All (λ v. AreGoodMeasures v.measures) voices.now }
     requires keys { AreKeys keys (called_keys s.now t.now.lengths a b) }
     requires places { AreAbscissas s.now t.now a b at.now }
-    ensures kept { voices.new ≡ voices.old }
     ensures tilted { IfOk result (IsTilted s.now t.now a b at.now) }
     ensures alike { IfOk result (λ m. (flat : SystemMarks) → IsCall s.now t.now a b flat → HaveSameShapes flat m) }
     ensures places { IfOk result (λ m. All (IsInSystem t.now.lengths a b) m.keys) }
@@ -270,7 +199,7 @@ pub fn tilt(
     ensures lines { IfOk result (λ m. All CoversLines m.staves) }
     ensures good { IfOk result (λ m. All (λ staff. AreGoodMarks staff.marks) m.staves) }
 {
-    let mut voices = draw_voices(alloc, s)?;
+    let voices = draw_voices(alloc, s)?;
     let keys = system_keys(alloc, s, voices.as_slice(), t, a, b)?;
-    tilt_of(alloc, s, voices.items.as_mut_slice(), t, a, b, keys, at)
+    tilt_of(alloc, s, voices.as_slice(), t, a, b, keys, at)
 }

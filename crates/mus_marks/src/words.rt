@@ -18,7 +18,7 @@ use std::alloc::Global;
 
 /// Draws the words of an event in its column. Returns the place of further texts there.
 #[tactic(auto, unfolding(mus_words::specs::Texts::text_marks))]
-fn put_words_at(
+pub(crate) fn put_words_at(
     pen: &mut MarkPen,
     place: TextPlace,
     first: u8,

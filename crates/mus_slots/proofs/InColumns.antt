@@ -19,8 +19,8 @@ use Rattle.mus_words.specs.declared.texts.TextPlace.{TextPlace}
 use Rattle.mus_slots.specs.declared.slots.Slot.{Slot}
 use Rattle.mus_slots.specs.declared.slots.VoiceSlots.{VoiceSlots}
 use Rattle.mus_slots.specs.declared.slots.Written.{Written}
-use Rattle.mus_slots.specs.Staff.{all_slots, bare_slot, bare_slots, column_at, column_marks, column_slots, place_after}
-use Rattle.mus_slots.specs.Staff.{places_after, slots_at, written_marks}
+use Rattle.mus_slots.specs.Staff.{all_slots, bare_slots, column_at, column_marks, column_slots, place_after}
+use Rattle.mus_slots.specs.Staff.{places_after, slot_laid, slots_at, slots_laid, written_marks}
 use Rattle.mus_slots.specs.Words.{IsInOrder, all_passed, passed, passed_in, with_words, words_from, words_in}
 use Rattle.mus_slots.proofs.ByKey.{AtMostOne, along, column_kept, false_not_true, in_column, in_order, is_same, one_at}
 use Rattle.mus_slots.proofs.ByKey.{rank_same}
@@ -147,17 +147,17 @@ module _ (keys : List ColumnKey) (k : ColumnKey) (has : Contains keys k) where
 
   -- one slot: its marks, then its words
   one_column : (p : TextPlace) (found : List Slot) (more : List Laid) → AtMostOne key_of k found
-      → flat_map (bare_slot keys) found ++ (map (drawn_at rank) (column_words p found) ++ more)
+      → slots_laid keys None found ++ (map (drawn_at rank) (column_words p found) ++ more)
       ≡ map (drawn_at rank) (column_marks p found) ++ more
   one_column p found more (inl e) =
       subst (λ t.
-      flat_map (bare_slot keys) t ++ (map (drawn_at rank) (column_words p t) ++ more)
+      slots_laid keys None t ++ (map (drawn_at rank) (column_words p t) ++ more)
       ≡ map (drawn_at rank) (column_marks p t) ++ more)
       (sym e) refl
   one_column p found more (inr (s, same, e)) =
       let words = written_marks p s.written in
       subst (λ t.
-      flat_map (bare_slot keys) t ++ (map (drawn_at rank) (column_words p t) ++ more)
+      slots_laid keys None t ++ (map (drawn_at rank) (column_words p t) ++ more)
       ≡ map (drawn_at rank) (column_marks p t) ++ more)
       (sym e)
       (ap (λ l.
@@ -182,7 +182,7 @@ module _ (keys : List ColumnKey) (k : ColumnKey) (has : Contains keys k) where
       let words = filter (stands_at_rank rank) (words_from keys places v.slots) in
       let rest = at_rank (with_words keys next (map (bare_slots keys) vs) vs) rank in
       ap (λ t. t ++ (words ++ rest)) (in_column key_of keys (λ s. s.drawn) k v.slots has all.0.1)
-      ∙ ap (λ t. flat_map (bare_slot keys) found ++ (t ++ rest)) (words_here places p v.slots is all.0.1)
+      ∙ ap (λ t. slots_laid keys None found ++ (t ++ rest)) (words_here places p v.slots is all.0.1)
       ∙ one_column p found rest (one_at key_of k v.slots all.0.0)
       ∙ ap (λ t. map (drawn_at rank) (column_marks p found) ++ t)
       (voices_here next after vs (place_here places p v.slots is all.0.1) all.1)
@@ -228,14 +228,14 @@ module _ (keys : List ColumnKey) (rise : Rises keys) (p : TextPlace) where
   -- a voice alone without words: its marks in their own order
   blank_column : (k : ColumnKey) (found : List Slot)
       → AtMostOne key_of k found → AreBlank found
-      → flat_map (bare_slot keys) found ≡ map (drawn_at (key_rank keys k)) (column_marks p (found ++ []))
+      → slots_laid keys None found ≡ map (drawn_at (key_rank keys k)) (column_marks p (found ++ []))
   blank_column k found (inl e) blank =
-      subst (λ t. flat_map (bare_slot keys) t ≡ map (drawn_at (key_rank keys k)) (column_marks p (t ++ []))) (sym e)
+      subst (λ t. slots_laid keys None t ≡ map (drawn_at (key_rank keys k)) (column_marks p (t ++ []))) (sym e)
       refl
   blank_column k found (inr (s, same, e)) blank =
       let none = (subst AreBlank e blank).0.marks p in
-      subst (λ t. flat_map (bare_slot keys) t ≡ map (drawn_at (key_rank keys k)) (column_marks p (t ++ []))) (sym e)
-      (append-nil (bare_slot keys s)
+      subst (λ t. slots_laid keys None t ≡ map (drawn_at (key_rank keys k)) (column_marks p (t ++ []))) (sym e)
+      (append-nil (slot_laid keys None s)
       ∙ ap (λ l. map (drawn_at (key_rank keys l)) s.drawn) same
       ∙ ap (map (drawn_at (key_rank keys k)))
       (sym
@@ -253,8 +253,8 @@ module _ (keys : List ColumnKey) (rise : Rises keys) (p : TextPlace) where
       → IsInOrder keys v → AreBlank v.slots
       → bare_slots keys v ≡ flat_map (column_at keys p (all_slots (v ∷ []))) keys
   alone_same v is blank =
-      in_order key_of (bare_slot keys) keys v.slots rise is.0 is.1
-      ∙ each_same (λ k. flat_map (bare_slot keys) (slots_at k v.slots)) (column_at keys p (all_slots (v ∷ [])))
+      in_order key_of (slot_laid keys None) keys v.slots rise is.0 is.1
+      ∙ each_same (λ k. slots_laid keys None (slots_at k v.slots)) (column_at keys p (all_slots (v ∷ [])))
       (λ k. blank_column k (slots_at k v.slots) (one_at key_of k v.slots is.0) (found_blank k v.slots blank))
       keys
 

@@ -2,6 +2,7 @@ pub mod ByKey
 pub mod Filled
 pub mod InColumns
 pub mod KeysOf
+pub mod Laid
 pub mod Marks
 pub mod Parts
 pub mod Plans

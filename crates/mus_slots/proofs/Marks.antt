@@ -1,7 +1,7 @@
 -- One walk over the marks of a staff: what holds of each kind of mark in a column, whatever the column, and of beams
 -- and arcs, holds of all marks of the staff.
 use Rattle.std.proofs.Common.{◌≡◌, ℕ, suc, ◌+◌, ◌≤◌, ◌<◌, ◌==◌, ◌||◌, Bool, true, false, cond, if◌then◌else◌, List, []}
-use Rattle.std.proofs.Common.{◌∷◌, ◌++◌, length, map, Some, None, refl, arith}
+use Rattle.std.proofs.Common.{◌∷◌, length, map, Option, Some, None, refl, arith}
 use Rattle.std.proofs.lemmas.List.Sums.{sum_by-cons}
 use Rattle.std.specs.List.{AllByRecursion, Contains, filter, flat_map}
 use Rattle.std.specs.Prelude.{IfSome, sum}
@@ -27,9 +27,10 @@ use Rattle.mus_drawn.specs.Drawn.{raise_of}
 use Rattle.mus_slots.specs.declared.slots.Slot.{Slot}
 use Rattle.mus_slots.specs.declared.slots.VoiceSlots.{VoiceSlots}
 use Rattle.mus_slots.specs.Staff.{all_slots, bridges_at, column_at, column_marks, column_slots, place_after}
-use Rattle.mus_slots.specs.Staff.{place_outside, bare_laid, slots_at, staff_laid, written_marks}
-use Rattle.mus_slots.specs.Voice.{slots_of_voices, voice_slots, written_of}
-use Rattle.mus_slots.proofs.Parts.{OfSlots, voice_all}
+use Rattle.mus_slots.specs.Staff.{bare_laid, place_outside, slot_ink, slot_laid, slots_at, slots_laid, staff_laid}
+use Rattle.mus_slots.specs.Staff.{written_marks}
+use Rattle.mus_slots.specs.Voice.{range_slots, slots_of_voices, voice_slots, written_of}
+use Rattle.mus_slots.proofs.Parts.{OfSlots, range_all, voice_all}
 
 -- a measure with a good meter, and an event with a good meter and a place for each of some verses
 abbrev pub HasMeter : DrawnMeasure → Type 0
@@ -38,8 +39,14 @@ HasMeter d = IsGoodMeter d.opening.meter
 abbrev pub FitsEvent : ℕ → DrawnEvent → Type 0
 FitsEvent verses e = IfSome e.flat.event.changes.meter IsGoodMeter × (length e.flat.event.words ≡ verses)
 
+abbrev pub FitsMeasure : ℕ → DrawnMeasure → Type 0
+FitsMeasure verses d = HasMeter d × AllByRecursion (FitsEvent verses) d.events
+
+abbrev pub Fits : ℕ → List DrawnMeasure → Type 0
+Fits verses = AllByRecursion (FitsMeasure verses)
+
 abbrev pub FitsVoice : DrawnVoice → Type 0
-FitsVoice v = AllByRecursion (λ d. HasMeter d × AllByRecursion (FitsEvent v.verses) d.events) v.measures
+FitsVoice v = Fits v.verses v.measures
 
 -- ---- the marks of slots
 module _ (P : LaneInk → Type 0) (w : OfMarks P) where
@@ -91,13 +98,17 @@ module _ (IsVerse : ℕ → Type 0) (P : LaneInk → Type 0) (marks : OfMarks P)
         of_bar = λ m d good. (drawn.of_bar m d good, λ place. tt);
       }
 
+  pub ink_all : (place : Option TextPlace) (s : Slot) → Holds s → AllByRecursion P (slot_ink place s)
+  ink_all None s holds = holds.0
+  ink_all (Some place) s holds =
+      all_append P s.drawn (written_marks place s.written) holds.0 (holds.1 place)
+
   column_all : (place : TextPlace) (ss : List Slot)
       → AllByRecursion Holds ss → AllByRecursion P (column_marks place ss)
   column_all place [] all = tt
   column_all place (s ∷ ss) all =
-      all_append P (s.drawn ++ written_marks place s.written) (column_marks (place_after place s.written) ss)
-      (all_append P s.drawn (written_marks place s.written) all.0.0 (all.0.1 place))
-      (column_all (place_after place s.written) ss all.1)
+      all_append P (slot_ink (Some place) s) (column_marks (place_after place s.written) ss)
+      (ink_all (Some place) s all.0) (column_all (place_after place s.written) ss all.1)
 
 -- ---- a staff
 -- the number of a verse of a staff
@@ -109,6 +120,11 @@ pub record OfLaid (verses : ℕ) (keys : List ColumnKey) (P : Laid → Type 0) :
   pub of_marks : (r : ℕ) → OfMarks (λ d. P (drawn_at r d))
   pub of_words : (r : ℕ) → OfWords (IsVerse verses) (λ d. P (drawn_at r d))
   pub of_bridge : (b : Bridge) → P (bridge_at keys b)
+
+pub all_weaker : {A : Type 0} (P Q : A → Type 0)
+    → ((x : A) → P x → Q x) → (xs : List A) → AllByRecursion P xs → AllByRecursion Q xs
+all_weaker P Q f [] all = tt
+all_weaker P Q f (x ∷ xs) all = (f x all.0, all_weaker P Q f xs all.1)
 
 pub all_kept : {A : Type 0} (P : A → Type 0) (test : A → Bool) (xs : List A)
     → AllByRecursion P xs → AllByRecursion P (filter test xs)
@@ -155,6 +171,31 @@ module _ (verses : ℕ) (keys : List ColumnKey) (P : Laid → Type 0) (w : OfLai
   abbrev HoldsAt : ℕ → Slot → Type 0
   HoldsAt r = Holds (IsVerse verses) (λ d. P (drawn_at r d)) (w.of_marks r) (w.of_words r)
 
+  own_verses : (r first own : ℕ) → first + own ≤ verses → OfSlots first lengths (HoldsAt r) (FitsEvent own) HasMeter
+  own_verses r first own few =
+      slots_hold (IsVerse verses) (λ d. P (drawn_at r d)) (w.of_marks r) (w.of_words r) first own lengths
+      (λ i inside. omega (arith, inside, few))
+
+  -- slots one after another, with their words at one place or nowhere
+  laid_all : (place : Option TextPlace) (ss : List Slot)
+      → ((r : ℕ) → AllByRecursion (HoldsAt r) ss) → AllByRecursion P (slots_laid keys place ss)
+  laid_all place [] all = tt
+  laid_all place (s ∷ ss) all =
+      let r = key_rank keys s.key in
+      all_append P (slot_laid keys place s) (slots_laid keys place ss)
+      (all_mapped P (drawn_at r) (slot_ink place s)
+      (ink_all (IsVerse verses) (λ d. P (drawn_at r d)) (w.of_marks r) (w.of_words r) place s (all r).0))
+      (laid_all place ss (λ q. (all q).1))
+
+  pub range_laid : (begins : Bool) (place : Option TextPlace) (first : ℕ) (v : DrawnVoice)
+      → first + v.verses ≤ verses → FitsVoice v
+      → AllByRecursion P (slots_laid keys place (range_slots begins lengths a b first v))
+  range_laid begins place first v few fits =
+      laid_all place (range_slots begins lengths a b first v)
+      (λ r.
+      range_all first lengths (HoldsAt r) (FitsEvent v.verses) HasMeter (own_verses r first v.verses few) begins a b v
+      fits)
+
   voices_hold : (r : ℕ) (k : ColumnKey) (first : ℕ) (vs : List DrawnVoice)
       → first + sum (map (λ v. v.verses) vs) ≤ verses → AllByRecursion FitsVoice vs
       → AllByRecursion (HoldsAt r) (column_slots k (all_slots (slots_of_voices first lengths a b vs)))
@@ -164,9 +205,7 @@ module _ (verses : ℕ) (keys : List ColumnKey) (P : Laid → Type 0) (w : OfLai
       all_append (HoldsAt r) (slots_at k (voice_slots first lengths a b v)) _
       (all_kept (HoldsAt r) (λ s. same_key s.key k) (voice_slots first lengths a b v)
       (voice_all first lengths (HoldsAt r) (FitsEvent v.verses) HasMeter
-      (slots_hold (IsVerse verses) (λ d. P (drawn_at r d)) (w.of_marks r) (w.of_words r) first v.verses lengths
-      (λ i inside. omega (arith, inside, few, count)))
-      a b v fits.0))
+      (own_verses r first v.verses (omega (arith, few, count))) a b v fits.0))
       (voices_hold r k (first + v.verses) vs (omega (arith, few, count)) fits.1)
 
   all_bridges : (bs : List Bridge) → AllByRecursion P (map (bridge_at keys) bs)

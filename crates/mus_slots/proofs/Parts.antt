@@ -22,8 +22,8 @@ use Rattle.mus_drawn.specs.declared.drawn.DrawnVoice.{DrawnVoice}
 use Rattle.mus_time.specs.Columns.{has_old}
 use Rattle.mus_slots.specs.declared.slots.Slot.{Slot}
 use Rattle.mus_slots.specs.Voice.{change_slots, columns_slots, event_slots, events_slots, first_slots, grace_slots}
-use Rattle.mus_slots.specs.Voice.{head_slots, levels_after, levels_in, measures_slots, meter_shown, note_slot, slot}
-use Rattle.mus_slots.specs.Voice.{slot_if, voice_slots}
+use Rattle.mus_slots.specs.Voice.{head_slots, levels_after, levels_in, measures_slots, meter_shown, note_slot}
+use Rattle.mus_slots.specs.Voice.{range_slots, slot, slot_if, voice_slots}
 
 -- what is asked of each kind of slot; E is what is known of events, D what is known of measures
 pub record OfSlots (first : ℕ) (lengths : List ℕ) (P : Slot → Type 0) (E : DrawnEvent → Type 0)
@@ -101,10 +101,22 @@ module _ (first : ℕ) (lengths : List ℕ) (P : Slot → Type 0) (E : DrawnEven
       (one _ _ _ (λ h. w.of_first bar)))
       (measures_all a true ds known)
 
+  sliced : (a b : ℕ) (ds : List DrawnMeasure)
+      → AllByRecursion (λ d. D d × AllByRecursion E d.events) ds
+      → AllByRecursion (λ d. D d × AllByRecursion E d.events) (slice_range ds a b)
+  sliced a b ds known =
+      all_take (λ d. D d × AllByRecursion E d.events) (b - a) (drop a ds)
+      (all_drop (λ d. D d × AllByRecursion E d.events) a ds known)
+
   pub voice_all : (a b : ℕ) (v : DrawnVoice)
       → AllByRecursion (λ d. D d × AllByRecursion E d.events) v.measures
       → AllByRecursion P (voice_slots first lengths a b v)
   voice_all a b v known =
       columns_all a v.seat v.first (slice_range v.measures a b)
-      (all_take (λ d. D d × AllByRecursion E d.events) (b - a) (drop a v.measures)
-      (all_drop (λ d. D d × AllByRecursion E d.events) a v.measures known))
+      (sliced a b v.measures known)
+
+  pub range_all : (begins : Bool) (a b : ℕ) (v : DrawnVoice)
+      → AllByRecursion (λ d. D d × AllByRecursion E d.events) v.measures
+      → AllByRecursion P (range_slots begins lengths a b first v)
+  range_all true a b v known = voice_all a b v known
+  range_all false a b v known = measures_all a false (slice_range v.measures a b) (sliced a b v.measures known)

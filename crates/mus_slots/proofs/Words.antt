@@ -42,6 +42,20 @@ AreBlank ss = AllByRecursion (λ s. IsBlank s.written) ss
 pub nothing_blank : IsBlank nothing
 nothing_blank = record { marks = λ place. refl; above = refl; below = refl }
 
+-- slots that have no words
+pub one_blank : (b : Bool) (key : ColumnKey) (drawn : List LaneInk) → AreBlank (slot_if b key drawn)
+one_blank true key drawn = (nothing_blank, tt)
+one_blank false key drawn = tt
+
+pub graces_blank : (m tick : ℕ) (clef : Clef) (group : Group) (i : ℕ) (gs : List Event)
+    → AreBlank (grace_slots m tick clef group i gs)
+graces_blank m tick clef group i [] = tt
+graces_blank m tick clef group i (g ∷ gs) = (nothing_blank, graces_blank m tick clef group (i + 1) gs)
+
+pub head_blank : (a : ℕ) (ds : List DrawnMeasure) → AreBlank (head_slots a ds)
+head_blank a [] = tt
+head_blank a (d ∷ ds) = one_blank _ _ _
+
 module _ (w : Written) (blank : IsBlank w) where
   pub blank_words : (o : Option TextPlace) → words_in o w ≡ []
   blank_words None = refl
@@ -114,19 +128,6 @@ module _ (keys : List ColumnKey) where
       }
 
   -- ---- those of a voice
-  one_blank : (b : Bool) (key : ColumnKey) (drawn : List LaneInk) → AreBlank (slot_if b key drawn)
-  one_blank true key drawn = (nothing_blank, tt)
-  one_blank false key drawn = tt
-
-  graces_blank : (m tick : ℕ) (clef : Clef) (group : Group) (i : ℕ) (gs : List Event)
-      → AreBlank (grace_slots m tick clef group i gs)
-  graces_blank m tick clef group i [] = tt
-  graces_blank m tick clef group i (g ∷ gs) = (nothing_blank, graces_blank m tick clef group (i + 1) gs)
-
-  head_blank : (a : ℕ) (ds : List DrawnMeasure) → AreBlank (head_slots a ds)
-  head_blank a [] = tt
-  head_blank a (d ∷ ds) = one_blank _ _ _
-
   module _ (first : ℕ) where
     event_words : (m : ℕ) (in_head : Bool) (before after : ℕ) (e : DrawnEvent)
         → SameWords (event_slots first m in_head before after e) (words_slot first m e ∷ [])

@@ -1,6 +1,6 @@
 -- The marks of a staff from the slots of its voices: in the column of each key what its voices have there, one voice
 -- after another; then what goes between columns, voice by voice.
-use Rattle.std.specs.Prelude.{ℕ, ◌+◌, List, [], ◌∷◌, ◌++◌, filter, flat_map, length, map}
+use Rattle.std.specs.Prelude.{ℕ, ◌+◌, List, [], ◌∷◌, ◌++◌, filter, flat_map, length, map, Option, Some, None}
 use Rattle.mus_onsets.specs.declared.keys.ColumnKey.{ColumnKey}
 use Rattle.mus_onsets.specs.Order.{key_rank, same_key}
 use Rattle.mus_laid.specs.declared.boxes.HeightRange.{HeightRange}
@@ -29,6 +29,22 @@ written_marks place w =
     syllables_from place.low w.first w.syllables
     ++ (above_from place.high place.above w.above ++ below_from place.low place.verses place.below w.below)
 
+-- marks, and after them words if these have a place
+abbrev pub ink_with : Option TextPlace → List LaneInk → Written → List LaneInk
+ink_with None drawn w = drawn
+ink_with (Some place) drawn w = drawn ++ written_marks place w
+
+-- all that a slot has in its column
+abbrev pub slot_ink : Option TextPlace → Slot → List LaneInk
+slot_ink place s = ink_with place s.drawn s.written
+
+-- the same in its column of a system
+abbrev pub slot_laid : List ColumnKey → Option TextPlace → Slot → List Laid
+slot_laid keys place s = map (drawn_at (key_rank keys s.key)) (slot_ink place s)
+
+abbrev pub slots_laid : List ColumnKey → Option TextPlace → List Slot → List Laid
+slots_laid keys place slots = flat_map (slot_laid keys place) slots
+
 -- the place of further texts in the column
 abbrev pub place_after : TextPlace → Written → TextPlace
 place_after place w =
@@ -41,15 +57,11 @@ places_after place (s ∷ ss) = places_after (place_after place s.written) ss
 -- the marks of slots of one column, texts outwards from slot to slot
 abbrev pub column_marks : TextPlace → List Slot → List LaneInk
 column_marks place [] = []
-column_marks place (s ∷ ss) =
-    (s.drawn ++ written_marks place s.written) ++ column_marks (place_after place s.written) ss
+column_marks place (s ∷ ss) = slot_ink (Some place) s ++ column_marks (place_after place s.written) ss
 
 -- all marks of a staff except syllables and texts
-abbrev pub bare_slot : List ColumnKey → Slot → List Laid
-bare_slot keys s = map (drawn_at (key_rank keys s.key)) s.drawn
-
 abbrev pub bare_slots : List ColumnKey → VoiceSlots → List Laid
-bare_slots keys v = flat_map (bare_slot keys) v.slots
+bare_slots keys v = slots_laid keys None v.slots
 
 abbrev pub bridges_at : List ColumnKey → List VoiceSlots → List Laid
 bridges_at keys voices = map (bridge_at keys) (flat_map (λ v. v.bridges) voices)

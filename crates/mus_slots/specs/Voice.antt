@@ -53,24 +53,26 @@ grace_slots m tick clef group i [] = []
 grace_slots m tick clef group i (g ∷ gs) =
     slot (key_at m tick Class.Grace i) (grace_marks clef group (i == 0) g) ∷ grace_slots m tick clef group (i + 1) gs
 
+-- the graces of an event
+abbrev pub group_slots : ℕ → DrawnEvent → List Slot
+group_slots m e = grace_slots m e.tick e.clef (group_of e.clef e.flat.graces e.flat.slash) 0 e.flat.graces
+
 -- the words of an event, for a voice whose first verse has number `first` on its staff
 abbrev pub written_of : ℕ → Flat → Written
 written_of first f =
     record { first = first; syllables = f.event.words; above = texts_above f; below = texts_below f }
 
 -- before and after are the levels of the events beside it in its beam, 0 for none
+abbrev pub event_marks : ℕ → ℕ → DrawnEvent → List LaneInk
+event_marks before after e = note_marks e.clef (raise_of e.seat) e.flat.event e.plan before after
+
 abbrev pub note_slot : ℕ → ℕ → ℕ → ℕ → DrawnEvent → Slot
-note_slot first m before after e = record {
-  key = note_key m e;
-  drawn = note_marks e.clef (raise_of e.seat) e.flat.event e.plan before after;
-  written = written_of first e.flat;
-}
+note_slot first m before after e =
+    record { key = note_key m e; drawn = event_marks before after e; written = written_of first e.flat }
 
 abbrev pub event_slots : ℕ → ℕ → Bool → ℕ → ℕ → DrawnEvent → List Slot
 event_slots first m in_head before after e =
-    change_slots m (in_head || is_lower e.seat) e
-    ++ grace_slots m e.tick e.clef (group_of e.clef e.flat.graces e.flat.slash) 0 e.flat.graces
-    ++ note_slot first m before after e ∷ []
+    change_slots m (in_head || is_lower e.seat) e ++ group_slots m e ++ note_slot first m before after e ∷ []
 
 -- the levels of an event if its beam is that of the plan
 abbrev pub levels_in : StemPlan → ℕ → ℕ → ℕ
@@ -87,12 +89,15 @@ events_slots first m in_head group flags (e ∷ es) =
     event_slots first m in_head (levels_in e.plan group flags) (levels_after e.plan es) e
     ++ events_slots first m false e.plan.group e.plan.flags es
 
+-- the bar after a measure
+abbrev pub bar_slots : List ℕ → ℕ → DrawnMeasure → List Slot
+bar_slots lengths m d = slot_if (not (is_lower d.seat)) (bar_key lengths m) (bar_marks d.bar)
+
 -- measures from number m on, each followed by its bar; the head draws the change before the first event of the first
 abbrev pub measures_slots : ℕ → List ℕ → ℕ → Bool → List DrawnMeasure → List Slot
 measures_slots first lengths m in_head [] = []
 measures_slots first lengths m in_head (d ∷ ds) =
-    (events_slots first m in_head 0 0 d.events
-    ++ slot_if (not (is_lower d.seat)) (bar_key lengths m) (bar_marks d.bar))
+    (events_slots first m in_head 0 0 d.events ++ bar_slots lengths m d)
     ++ measures_slots first lengths (m + 1) false ds
 
 -- the meter is drawn where the voice begins and where it changes

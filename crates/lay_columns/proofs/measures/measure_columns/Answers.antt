@@ -24,13 +24,13 @@ invariant_of-frame c =
       few = omega (arith, count, c.requires.good.few_measures);
     }
 
-pub measure_staves-requires-clause-each : goal.measure_staves-requires-clause-each
-measure_staves-requires-clause-each c =
+pub range_staves-requires-clause-each : goal.range_staves-requires-clause-each
+range_staves-requires-clause-each c =
     voices_count c.args.s.now c.args.t.now c.as_slice-2.result.now c.as_slice-2.ensures c.requires.times
     c.args.voices.now c.requires.good c.requires.voices
 
-pub measure_staves-requires-clause-verses : goal.measure_staves-requires-clause-verses
-measure_staves-requires-clause-verses c =
+pub range_staves-requires-clause-verses : goal.range_staves-requires-clause-verses
+range_staves-requires-clause-verses c =
     subst (λ vs. verses_on vs ≤ 128) (sym c.requires.voices) (few_verses c.args.s.now c.requires.good)
 
 pub columns_in-requires-clause-good : goal.columns_in-requires-clause-good

@@ -2,7 +2,7 @@ use Rattle.std.proofs.Common.{length, length-drop, ◌∙◌, ◌+◌, ◌++◌,
 use Rattle.mus_marks.specs.Staff.{verses_on}
 use Rattle.mus_marks.specs.System.{is_drawn_lower}
 use Rattle.mus_marks.proofs.Groups.{group_turn, rest_from}
-use Rattle.mus_marks.proofs.Parts.{verses_drop, verses_take}
+use Rattle.mus_marks.proofs.Verses.{verses_drop, verses_take}
 use Rattle.lay_columns.proofs.staves.staff_verses.Goals as goal
 
 pub verses_on-requires : goal.verses_on-requires

@@ -9,7 +9,7 @@ use Rattle.lay_tune.proofs.layout.lay_out.Goals as goal
 
 pub staff_verses-requires : goal.staff_verses-requires
 staff_verses-requires g c =
-    subst (λ vs. verses_on vs ≤ 128) (sym (c.as_slice.ensures ∙ c.in_ok-drawn.ensures.voices))
+    subst (λ vs. verses_on vs ≤ 128) (sym (c.as_slice-voices.ensures ∙ c.in_ok-drawn.ensures.voices))
     (few_verses c.args.s.now c.requires.good)
 
 pub lay_out_measures-requires-clause-measured : goal.lay_out_measures-requires-clause-measured
@@ -22,14 +22,14 @@ lay_out_measures-requires-clause-measured g c κs within =
       count = search rules;
       measures = search rules;
       columns =
-          subst (λ others. AreColumnsOf c.args.s.now c.as_slice-2.result.now others) (sym c.as_slice-3.ensures)
-          (subst (λ starts. AreColumnsOf c.args.s.now starts c.in_ok-further.further) (sym c.as_slice-2.ensures)
+          subst (λ others. AreColumnsOf c.args.s.now c.as_slice.result.now others) (sym c.as_slice-2.ensures)
+          (subst (λ starts. AreColumnsOf c.args.s.now starts c.in_ok-further.further) (sym c.as_slice.ensures)
           (columns_join c.measures_join.ensures c.args.s.now c.in_ok-columns.columns.starts c.in_ok-further.further
           c.requires.good
           c.in_ok-columns.ensures.starts c.in_ok-further.ensures));
-      gaps = c.as_slice-4.ensures ∙ c.in_ok-gaps.ensures.value ∙ ap gaps_of verses;
+      gaps = c.as_slice-3.ensures ∙ c.in_ok-gaps.ensures.value ∙ ap gaps_of verses;
       lanes =
-          subst (λ gaps. length gaps < 4294967296) (sym c.as_slice-4.ensures)
+          subst (λ gaps. length gaps < 4294967296) (sym c.as_slice-3.ensures)
           (few_lanes c.args.s.now c.as_slice-verses.result.now c.in_ok-gaps.gaps c.requires.good verses
           c.in_ok-gaps.ensures.few);
       narrow = search rules;

@@ -1,4 +1,4 @@
-use Rattle.std.proofs.Common.{◌≡◌, ◌∙◌, ℕ, ◌+◌, ◌<◌, ◌≤◌, List, [], ◌∷◌, ◌++◌, drop, length, slice_index_or, sym, subst}
+use Rattle.std.proofs.Common.{◌≡◌, ℕ, ◌+◌, ◌<◌, ◌≤◌, List, [], ◌∷◌, ◌++◌, drop, length, slice_index_or, sym, subst}
 use Rattle.std.proofs.Common.{arith}
 use Rattle.std.proofs.lemmas.List.{append-nil, drop_all, drop_more}
 use Rattle.std.proofs.lemmas.List.Elements.{All-append, All-cons, All-nil}
@@ -27,7 +27,6 @@ loop-b-preserved c =
     ≡ slice_index_or c.args.breaks.now c.loop-b.b-index 0 ∷ drop (c.loop-b.b-index + 1) c.args.breaks.now =
     drop_more c.args.breaks.now c.loop-b.b-index 0 inside in
     record {
-      kept = c.set_system.ensures.kept ∙ c.loop-b.invariant.kept;
       systems =
           subst (λ marks.
           (more : List SystemMarks) (at : List Placed)

@@ -1,14 +1,12 @@
-use Rattle.std.{proofs.Common.{◌≡◌, ◌++◌, List, drop, map}, specs.List.{All, AllZip}}
+use Rattle.std.{proofs.Common.{◌≡◌, ◌++◌, List, drop}, specs.List.{All, AllZip}}
 use Rattle.mus_laid.specs.declared.laid.SystemMarks.{SystemMarks}
 use Rattle.mus_laid.specs.Boxes.{AreGoodMarks}
-use Rattle.mus_drawn.specs.Drawn.{drawn_voice}
 use Rattle.lay_springs.specs.declared.margin.Placed.{Placed}
 use Rattle.lay_tune.specs.Systems.{AllSpans, CanBeSet, EachSpan, IsSetSystem, IsStack}
 use Rattle.lay_tune.proofs.systems.set_systems.Given as goal
 
 abbrev pub invariant-loop-b : goal.invariant-loop-b
 invariant-loop-b l = record {
-  kept : l.voices ≡ map drawn_voice l.measured.score.now.voices;
   systems : (more : List SystemMarks) (at : List Placed)
       → EachSpan (IsSetSystem l.measured.score.now l.measured.width) l.a (drop l.b-index l.breaks) more at
       → EachSpan (IsSetSystem l.measured.score.now l.measured.width) 0 l.breaks (l.marks ++ more) (l.placed ++ at);

@@ -1,8 +1,7 @@
-use Rattle.std.proofs.Common.{◌≡◌, drop, map}
-use Rattle.mus_bridges.specs.{Beams.last_at, Bridges.beam_stem_at}
+use Rattle.std.proofs.Common.{◌≡◌, drop}
+use Rattle.mus_bridges.specs.Beams.{last_at}
 use Rattle.mus_bridges.proofs.stems.last_at.Given as goal
 
-abbrev pub invariant-loop-e : goal.invariant-loop-e
-invariant-loop-e l =
-    last_at l.level l.last (map (beam_stem_at l.measure) (drop l.e-index l.following))
-    ≡ last_at l.level l.initial.last (map (beam_stem_at l.measure) l.following)
+abbrev pub invariant-loop-q : goal.invariant-loop-q
+invariant-loop-q l =
+    last_at l.level l.last (drop l.q-index l.following) ≡ last_at l.level l.initial.last l.following

@@ -5,7 +5,7 @@ use Rattle.mus_marks.specs.Staff.{verses_on}
 use Rattle.mus_marks.proofs.Drawing.{word_turn}
 use Rattle.mus_marks.proofs.Goods.{all_after}
 use Rattle.mus_marks.proofs.Groups.{prefix_is}
-use Rattle.mus_marks.proofs.Parts.{verses_cons}
+use Rattle.mus_marks.proofs.Verses.{verses_cons}
 use Rattle.mus_marks.proofs.staves.with_words.Goals as goal
 
 pub loop-part-preserved : goal.loop-part-preserved

@@ -3,14 +3,16 @@ use Rattle.mus_score.specs.Seats.{grouped}
 use Rattle.mus_drawn.specs.Good.{AreGoodMeasures}
 use Rattle.mus_marks.specs.Staff.{verses_on}
 use Rattle.mus_marks.specs.System.{is_drawn_lower}
-use Rattle.lay_columns.specs.Measures.{measure_staff}
-use Rattle.lay_columns.proofs.measures.measure_staves.Given as goal
+use Rattle.lay_columns.specs.Measures.{range_staff}
+use Rattle.lay_columns.proofs.measures.range_staves.Given as goal
 
 abbrev pub invariant-staves : goal.invariant-staves
 invariant-staves l = record {
   staves : l.staves
-      ++ map (measure_staff l.begins l.frame.keys.now l.frame.lengths.now l.frame.a) (grouped is_drawn_lower l.rest)
-      ≡ map (measure_staff l.begins l.frame.keys.now l.frame.lengths.now l.frame.a) (grouped is_drawn_lower l.voices);
+      ++ map (range_staff l.begins l.frame.keys.now l.frame.lengths.now l.frame.a l.frame.b)
+      (grouped is_drawn_lower l.rest)
+      ≡ map (range_staff l.begins l.frame.keys.now l.frame.lengths.now l.frame.a l.frame.b)
+      (grouped is_drawn_lower l.voices);
   each : All (λ v. length v.measures ≡ length l.frame.lengths.now) l.rest;
   good : All (λ v. AreGoodMeasures v.measures) l.rest;
   verses : verses_on l.rest ≤ 128;

@@ -5,12 +5,12 @@ use Rattle.mus_drawn.specs.Good.{AreGoodMeasures}
 use Rattle.mus_marks.specs.Staff.{verses_on}
 use Rattle.mus_marks.specs.System.{is_drawn_lower}
 use Rattle.mus_marks.proofs.Groups.{group_turn, rest_from}
-use Rattle.mus_marks.proofs.Parts.{verses_drop, verses_take}
-use Rattle.lay_columns.specs.Measures.{measure_staff}
-use Rattle.lay_columns.proofs.measures.measure_staves.Goals as goal
+use Rattle.mus_marks.proofs.Verses.{verses_drop, verses_take}
+use Rattle.lay_columns.specs.Measures.{range_staff}
+use Rattle.lay_columns.proofs.measures.range_staves.Goals as goal
 
-pub measure_staff-requires-clause-verses : goal.measure_staff-requires-clause-verses
-measure_staff-requires-clause-verses c =
+pub range_staff-requires-clause-verses : goal.range_staff-requires-clause-verses
+range_staff-requires-clause-verses c =
     let few = c.staves.invariant.verses in
     omega (arith, few, verses_take (c.lower_count-count.result + 1) c.staves.rest.now)
 
@@ -24,9 +24,10 @@ staves-preserved c =
     let following = ap verses_on more in record {
       staves =
           group_turn is_drawn_lower
-          (measure_staff c.args.begins c.args.frame.now.keys.now c.args.frame.now.lengths.now c.args.frame.now.a) rest n
-          c.staves.staves c.push.new.self _ c.in-len1-up.len_at_least c.lower_count-count.ensures.value
-          (c.in_ok-push.ensures.ok ∙ ap (λ staff. c.staves.staves ++ staff ∷ []) c.in_ok-measure_staff.ensures)
+          (range_staff c.args.begins c.args.frame.now.keys.now c.args.frame.now.lengths.now c.args.frame.now.a
+          c.args.frame.now.b)
+          rest n c.staves.staves c.push.new.self _ c.in-len1-up.len_at_least c.lower_count-count.ensures.value
+          (c.in_ok-push.ensures.ok ∙ ap (λ staff. c.staves.staves ++ staff ∷ []) c.in_ok-range_staff.ensures)
           c.staves.invariant.staves;
       each =
           subst (All (λ v. length v.measures ≡ length c.args.frame.now.lengths.now)) (sym more)
