@@ -1,9 +1,8 @@
 ghost use Rattle.std.specs.Prelude.{◌≡◌, ◌+◌, ◌<◌, ◌≤◌, ◌^◌, ℕ, length, slice_index, slice_index_or, false};
-ghost use Rattle.lay_spans.specs.Columns.{AreMeasures};
 ghost use Rattle.lay_spans.specs.Rows.{IsRowFrom};
-ghost use Rattle.lay_spans.specs.Single.{measures_prop, one_row, row_low};
+ghost use Rattle.lay_spans.specs.Single.{one_row, row_low};
 
-use crate::borrowed::BorrowedColumns;
+use crate::measures::Measures;
 use crate::rows::row_from;
 use lay_rows::RowMaker;
 use lay_springs::{LinearSpring, Spaced};
@@ -14,31 +13,24 @@ use std::alloc::Global;
 #[derive(Drop)]
 pub(crate) struct SpanMaker<'a, C: Spaced + LinearSpring> {
     pub(crate) alloc: Global,
-    pub(crate) starts: &'a [Row<C>],
-    pub(crate) others: &'a [BorrowedColumns<'a, C>],
-    pub(crate) gaps: &'a [u32],
+    pub(crate) measures: &'a Measures<'a, C>,
     pub(crate) width: u32,
     pub(crate) marks: &'a [bool],
-    pub(crate) ghost measures: { AreMeasures C.reach_of (length gaps.now) starts.now others.now } //
-    by { measures_prop C.reach_of (length gaps.now) starts.now others.now },
-    pub(crate) ghost lanes: { length gaps.now < 2 ^ 32 },
-    pub(crate) ghost narrow: { (lane : ℕ) → lane < length gaps.now → slice_index gaps.now lane ≤ 2 ^ 20 },
-    pub(crate) ghost marked: { length marks.now ≡ length starts.now + 1 },
+    pub(crate) ghost marked: { length marks.now ≡ length measures.now.starts.now + 1 },
 }
 
 impl<'a, C: Spaced + LinearSpring> RowMaker for SpanMaker<'a, C> {
-    ghost bars = { λ m. length m.starts.now };
+    ghost bars = { λ m. length m.measures.now.starts.now };
 
     ghost is_row = { λ m a row.
-        IsRowFrom C.reach_of C.length_of m.gaps.now m.width m.starts.now m.others.now
+        IsRowFrom C.reach_of C.length_of m.measures.now.gaps.list.now m.width m.measures.now.starts.now
+        m.measures.now.others.now
         (λ b. slice_index_or m.marks.now b false) a row };
 
     fn forces_from(&self, a: u32) -> Result<Row<u16>, Memory> {
         row_from(
             self.alloc,
-            self.starts,
-            self.others,
-            self.gaps,
+            self.measures,
             self.width,
             self.marks,
             a as usize,
@@ -46,10 +38,12 @@ impl<'a, C: Spaced + LinearSpring> RowMaker for SpanMaker<'a, C> {
     }
 
     ghost is_one = { λ m a row other l h k.
-        one_row C.reach_of C.length_of m.gaps.now m.width m.starts.now m.others.now
+        one_row C.reach_of C.length_of m.measures.now.gaps.list.now m.width m.measures.now.starts.now
+        m.measures.now.others.now
         (λ b. slice_index_or m.marks.now b false) (λ c f g l m. C.rises c f g l m) a row other h k };
 
     ghost is_low = { λ m a row l h.
-        row_low C.reach_of C.length_of m.gaps.now m.width m.starts.now m.others.now
+        row_low C.reach_of C.length_of m.measures.now.gaps.list.now m.width m.measures.now.starts.now
+        m.measures.now.others.now
         (λ b. slice_index_or m.marks.now b false) a row h };
 }

@@ -1,15 +1,15 @@
 ghost use Rattle.std.specs.Prelude.{◌≡◌, ◌+◌, ◌-◌, ◌<◌, ◌≤◌, ◌^◌, ◌++◌, ℕ, IfNone, IfOk, IfSome, OnOk, length, map};
-ghost use Rattle.std.specs.Prelude.{slice_index, slice_index_or, false, []};
+ghost use Rattle.std.specs.Prelude.{slice_index_or, false, []};
 ghost use Rattle.lay_springs.specs.{Fit.most_columns, Place.{reach_at, length_at, HasPlaced}};
-ghost use Rattle.lay_spans.specs.Columns.{measures_from, AreMeasures};
+ghost use Rattle.lay_spans.specs.Columns.{measures_from};
 ghost use Rattle.lay_spans.specs.Rows.{IsRowFrom, row_spans, rows_spans};
 ghost use Rattle.lay_spans.specs.SpanList.{FitsAt, FitsAtForce};
 
-use crate::borrowed::BorrowedColumns;
+use crate::measures::Measures;
 use crate::seen::BorrowedColumn;
 use lay_breaks::Span;
 use lay_rows::badness;
-use lay_springs::{LinearSpring, Progress, Spaced, fit_within, most_columns};
+use lay_springs::{LinearSpring, Progress, Spaced, SpacedColumns, fit_within, most_columns};
 use mus_units::{Memory, Row};
 use std::alloc::Global;
 
@@ -22,48 +22,44 @@ const SPANS_OFTEN: usize = 8;
 /// Returns the greatest force from 0 to `most` at which the columns end within the width. `None`
 /// exactly when they can't be within it; more than `most_columns` never can.
 fn greatest_force<C: Spaced + LinearSpring>(
-    cols: &[C],
-    gaps: &[u32],
+    columns: SpacedColumns<'_, C>,
     width: u32,
     most: u16,
     at: &mut [i64],
     front: &mut [i64],
     placed: &mut Progress,
 ) -> Option<u16>
-    requires some { 0 < length cols.now }
-    requires lanes { length gaps.now < 2 ^ 32 }
-    requires narrow { (lane : ℕ) → lane < length gaps.now → slice_index gaps.now lane ≤ 2 ^ 20 }
     requires most { most ≤ 2048 }
-    requires room { length cols.now ≤ length at.old }
-    requires one_each { length front.old ≡ length gaps.now }
-    requires placed { HasPlaced (length cols.now) (reach_at C.reach_of cols.now) gaps.now
-        (length_at C.length_of cols.now) placed.old at.old front.old }
-    ensures placed { HasPlaced (length cols.now) (reach_at C.reach_of cols.now) gaps.now
-        (length_at C.length_of cols.now) placed.new at.new front.new }
+    requires room { length columns.cols.now ≤ length at.old }
+    requires one_each { length front.old ≡ length columns.gaps.list.now }
+    requires placed { HasPlaced (length columns.cols.now) (reach_at C.reach_of columns.cols.now) columns.gaps.list.now
+        (length_at C.length_of columns.cols.now) placed.old at.old front.old }
+    ensures placed { HasPlaced (length columns.entry.cols.now) (reach_at C.reach_of columns.entry.cols.now)
+        columns.entry.gaps.list.now
+        (length_at C.length_of columns.entry.cols.now) placed.new at.new front.new }
     ensures bound { IfSome result (λ f. f ≤ most) }
-    ensures fits { IfSome result (λ f. FitsAt C.reach_of C.length_of gaps.now width f cols.now) }
+    ensures fits { IfSome result (λ f. FitsAt C.reach_of C.length_of columns.entry.gaps.list.now width f
+        columns.entry.cols.now) }
     ensures greatest { IfSome result
-        (λ f. (g : ℕ) → f < g → g ≤ most → FitsAtForce C.reach_of C.length_of gaps.now width g cols.now → ⊥) }
-    ensures none { IfNone result (FitsAtForce C.reach_of C.length_of gaps.now width 0 cols.now → ⊥) }
+        (λ f. (g : ℕ) → f < g → g ≤ most → FitsAtForce C.reach_of C.length_of columns.entry.gaps.list.now width g
+        columns.entry.cols.now → ⊥) }
+    ensures none { IfNone result (FitsAtForce C.reach_of C.length_of columns.entry.gaps.list.now width 0
+        columns.entry.cols.now → ⊥) }
 {
-    if most_columns(width) < cols.len() {
+    if most_columns(width) < columns.cols.len() {
         return None;
     }
-    fit_within(cols, gaps, width, most, at, front, placed)
+    fit_within(columns, width, most, at, front, placed)
 }
 
 /// Returns the columns of measure `m` in a system that begins at bar `a`.
-pub(crate) fn measure<'a, C>(
-    starts: &'a [Row<C>],
-    others: &'a [BorrowedColumns<'a, C>],
-    a: usize,
-    m: usize,
-) -> &'a [C]
+pub(crate) fn measure<'a, C: Spaced>(measures: &Measures<'a, C>, a: usize, m: usize) -> &'a [C]
     requires past { a ≤ m }
-    requires inside { m < length starts.now }
-    requires same { length others.now ≡ length starts.now }
-    ensures { result.now ≡ slice_index_or (measures_from starts.now others.now a) (m - a) [] }
+    requires inside { m < length measures.now.starts.now }
+    ensures { result.now
+        ≡ slice_index_or (measures_from measures.now.starts.now measures.now.others.now a) (m - a) [] }
 {
+    let (starts, others) = (measures.starts, measures.others);
     if m == a {
         starts[a].as_slice()
     } else {
@@ -87,18 +83,11 @@ pub(crate) fn see<'a, C: Spaced + LinearSpring>(
 
 /// Returns how many columns the searches from bar `a` are given at most: those of the measures up to
 /// the first with which they are too many to be within the width.
-fn room_from<'a, C>(
-    starts: &'a [Row<C>],
-    others: &'a [BorrowedColumns<'a, C>],
-    width: u32,
-    a: usize,
-) -> usize
-    requires same { length others.now ≡ length starts.now }
-{
+fn room_from<C: Spaced>(measures: &Measures<'_, C>, width: u32, a: usize) -> usize {
     let most = most_columns(width);
     let mut room: usize = 0;
-    for m in a..starts.len() {
-        room = room.saturating_add(measure(starts, others, a, m).len());
+    for m in a..measures.starts.len() {
+        room = room.saturating_add(measure(measures, a, m).len());
         if most < room {
             return room;
         }
@@ -112,34 +101,34 @@ fn room_from<'a, C>(
 /// takes no memory: its scratch is reserved before the first.
 pub(crate) fn row_from<'a, C: Spaced + LinearSpring>(
     alloc: Global,
-    starts: &'a [Row<C>],
-    others: &'a [BorrowedColumns<'a, C>],
-    gaps: &[u32],
+    measures: &Measures<'a, C>,
     width: u32,
     marks: &[bool],
     a: usize,
 ) -> Result<Row<u16>, Memory>
-    requires measures { AreMeasures C.reach_of (length gaps.now) starts.now others.now }
-    requires lanes { length gaps.now < 2 ^ 32 }
-    requires narrow { (lane : ℕ) → lane < length gaps.now → slice_index gaps.now lane ≤ 2 ^ 20 }
-    requires marked { length marks.now ≡ length starts.now + 1 }
-    requires inside { a < length starts.now }
-    ensures { IfOk result (λ row. IsRowFrom C.reach_of C.length_of gaps.now width starts.now others.now
+    requires marked { length marks.now ≡ length measures.now.starts.now + 1 }
+    requires inside { a < length measures.now.starts.now }
+    ensures { IfOk result (λ row. IsRowFrom C.reach_of C.length_of measures.now.gaps.list.now width
+        measures.now.starts.now measures.now.others.now
         (λ b. slice_index_or marks.now b false) a row) }
 {
-    let room = room_from(starts, others, width, a);
+    let room = room_from(measures, width, a);
     let mut at = Vec::with_capacity(alloc, room)?;
-    let mut ends = vec![in alloc; 0; gaps.len()]?;
+    let mut ends = vec![in alloc; 0; measures.gaps.list.len()]?;
     let front = ends.as_mut_slice();
     let placed = &mut Progress::none();
     let mut seen = Row::with_room(alloc, room)?;
     let mut row = Row::with_room(alloc, SPANS_OFTEN)?;
     let mut most = 2048;
-    for m in a..starts.len() {
-        see(&mut seen, measure(starts, others, a, m))?;
-        let columns = seen.as_slice();
-        at.resize(columns.len(), 0)?;
-        let Some(force) = greatest_force(columns, gaps, width, most, &mut at, front, placed) else {
+    for m in a..measures.starts.len() {
+        see(&mut seen, measure(measures, a, m))?;
+        let cols = seen.as_slice();
+        at.resize(cols.len(), 0)?;
+        let columns = SpacedColumns {
+            cols,
+            gaps: measures.gaps,
+        };
+        let Some(force) = greatest_force(columns, width, most, &mut at, front, placed) else {
             return Ok(row);
         };
         row.push(force)?;

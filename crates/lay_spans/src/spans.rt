@@ -1,13 +1,13 @@
-ghost use Rattle.std.specs.Prelude.{◌≡◌, ◌+◌, ◌<◌, ◌≤◌, ◌^◌, ℕ, IfOk, length, map, slice_index};
+ghost use Rattle.std.specs.Prelude.{◌≡◌, ◌+◌, ◌<◌, ◌≤◌, IfOk, length, map};
 ghost use Rattle.lay_breaks.specs.Spans.{AreSpans};
-ghost use Rattle.lay_spans.specs.Columns.{AreMeasures, span_columns};
+ghost use Rattle.lay_spans.specs.Columns.{span_columns};
 ghost use Rattle.lay_spans.specs.Forced.{is_forced};
 ghost use Rattle.lay_spans.specs.{Rows.{HaveForces}, SpanList.{IsSpanList}};
 
-use crate::borrowed::BorrowedColumns;
 use crate::costs::FittingSpans;
 use crate::maker::SpanMaker;
 use crate::marks::marks_of;
+use crate::measures::Measures;
 use crate::rows::{MOST_OFTEN, list_rows, measure, see};
 use crate::seen::BorrowedColumn;
 use eng_jobs::Jobs;
@@ -20,8 +20,7 @@ use std::thread::Threads;
 /// Returns the spans of measures that fit within a width, in u, by the bar after which they begin
 /// and then by the bar with which they end.
 ///
-/// `starts` has the columns of each measure in a system that begins with it, and `others` in one
-/// that doesn't. The span from bar a to bar b has the measures a to b - 1, counted from 0. A span
+/// The span from bar a to bar b has the measures a to b - 1, counted from 0. A span
 /// with a forced bar strictly inside isn't listed. Bars in `forced` that the tune doesn't have are
 /// ignored.
 ///
@@ -30,33 +29,28 @@ use std::thread::Threads;
 pub fn spans_of<'a, R: Threads + Sync, C: Spaced + LinearSpring + Sync>(
     rt: &R,
     alloc: Global,
-    starts: &'a [Row<C>],
-    others: &'a [BorrowedColumns<'a, C>],
-    gaps: &[u32],
+    measures: &Measures<'a, C>,
     width: u32,
     forced: &[u32],
     jobs: Jobs,
 ) -> Result<FittingSpans, Memory>
-    requires measures { AreMeasures C.reach_of (length gaps.now) starts.now others.now }
-    requires lanes { length gaps.now < 2 ^ 32 }
-    requires narrow { (lane : ℕ) → lane < length gaps.now → slice_index gaps.now lane ≤ 2 ^ 20 }
-    ensures form { IfOk result (λ spans. AreSpans (length starts.now) spans.list) }
-    ensures bars { IfOk result (λ spans. length spans.rows.rows ≡ length starts.now) }
-    ensures forces { IfOk result (λ spans. HaveForces C.reach_of C.length_of gaps.now width starts.now others.now
-        (is_forced (length starts.now) forced.now) spans.rows.rows) }
-    ensures exact { IfOk result (λ spans. IsSpanList C.reach_of C.length_of gaps.now width starts.now others.now
-        (is_forced (length starts.now) forced.now) spans.list) }
+    ensures form { IfOk result (λ spans. AreSpans (length measures.now.starts.now) spans.list) }
+    ensures bars { IfOk result (λ spans. length spans.rows.rows ≡ length measures.now.starts.now) }
+    ensures forces { IfOk result (λ spans. HaveForces C.reach_of C.length_of measures.now.gaps.list.now width
+        measures.now.starts.now measures.now.others.now
+        (is_forced (length measures.now.starts.now) forced.now) spans.rows.rows) }
+    ensures exact { IfOk result (λ spans. IsSpanList C.reach_of C.length_of measures.now.gaps.list.now width
+        measures.now.starts.now measures.now.others.now
+        (is_forced (length measures.now.starts.now) forced.now) spans.list) }
 {
-    let marks = marks_of(alloc, forced, starts.len())?;
+    let marks = marks_of(alloc, forced, measures.starts.len())?;
     let maker = SpanMaker {
         alloc,
-        starts,
-        others,
-        gaps,
+        measures,
         width,
         marks: marks.as_slice(),
     };
-    let rows = make_rows(rt, alloc, &maker, starts.len() as u32, jobs)?;
+    let rows = make_rows(rt, alloc, &maker, measures.starts.len() as u32, jobs)?;
     let list = list_rows(alloc, rows.rows.as_slice())?;
     Ok(FittingSpans { list, rows })
 }
@@ -64,19 +58,18 @@ pub fn spans_of<'a, R: Threads + Sync, C: Spaced + LinearSpring + Sync>(
 /// Returns the columns of the span from bar `a` to bar `b`, as `spans_of` has it, in order.
 pub fn columns_in<'a, C: Spaced + LinearSpring>(
     alloc: Global,
-    starts: &'a [Row<C>],
-    others: &'a [BorrowedColumns<'a, C>],
+    measures: &Measures<'a, C>,
     a: usize,
     b: usize,
 ) -> Result<Row<BorrowedColumn<'a, C>>, Memory>
     requires order { a < b }
-    requires within { b ≤ length starts.now }
-    requires same { length others.now ≡ length starts.now }
-    ensures { IfOk result (λ seen. map (λ s. s.column.now) seen ≡ span_columns starts.now others.now a b) }
+    requires within { b ≤ length measures.now.starts.now }
+    ensures { IfOk result (λ seen. map (λ s. s.column.now) seen ≡ span_columns measures.now.starts.now
+        measures.now.others.now a b) }
 {
     let mut seen = Row::with_room(alloc, MOST_OFTEN)?;
     for m in a..b {
-        see(&mut seen, measure(starts, others, a, m))?;
+        see(&mut seen, measure(measures, a, m))?;
     }
     Ok(seen)
 }

@@ -4,6 +4,7 @@ ghost use Rattle.lay_springs.specs.Fit.{IsEndOf, EndsAt, Fits, CanStandWithin, I
 ghost use Rattle.lay_springs.specs.Fit.{OneForce, most_columns};
 ghost use Rattle.lay_springs.specs.Place.{reach_at, length_at, slack, AreLinear, HasPlaced};
 
+use crate::columns::SpacedColumns;
 use crate::guesses::{highest, lowered, too_long};
 use crate::least::{larger, place_all, place_to};
 use crate::progress::Progress;
@@ -30,70 +31,69 @@ pub(crate) fn end_of<C: Spaced>(col: &C, lanes: usize, at: i64) -> i64
 /// Places the columns at a force and returns their end. If their springs are linear, the tight
 /// springs bound how far it can fall with the force.
 pub(crate) fn end_at<C: Spaced + Spring>(
-    cols: &[C],
-    gaps: &[u32],
+    columns: SpacedColumns<'_, C>,
     force: u16,
     at: &mut [i64],
     front: &mut [i64],
     placed: &mut Progress,
 ) -> i64
-    requires some { 0 < length cols.now }
-    requires few { length cols.now ≤ 2 ^ 26 }
-    requires lanes { length gaps.now < 2 ^ 32 }
-    requires narrow { (lane : ℕ) → lane < length gaps.now → slice_index gaps.now lane ≤ 2 ^ 20 }
-    requires room { length cols.now ≤ length at.old }
-    requires one_each { length front.old ≡ length gaps.now }
-    requires placed { HasPlaced (length cols.now) (reach_at C.reach_of cols.now) gaps.now
-        (length_at C.length_of cols.now) placed.old at.old front.old }
-    ensures placed { HasPlaced (length cols.now) (reach_at C.reach_of cols.now) gaps.now
-        (length_at C.length_of cols.now) placed.new at.new front.new }
-    ensures end { EndsAt (length cols.now) (reach_at C.reach_of cols.now) gaps.now (length_at C.length_of cols.now)
+    requires few { length columns.cols.now ≤ 2 ^ 26 }
+    requires room { length columns.cols.now ≤ length at.old }
+    requires one_each { length front.old ≡ length columns.gaps.list.now }
+    requires placed { HasPlaced (length columns.cols.now) (reach_at C.reach_of columns.cols.now) columns.gaps.list.now
+        (length_at C.length_of columns.cols.now) placed.old at.old front.old }
+    ensures placed { HasPlaced (length columns.entry.cols.now) (reach_at C.reach_of columns.entry.cols.now)
+        columns.entry.gaps.list.now
+        (length_at C.length_of columns.entry.cols.now) placed.new at.new front.new }
+    ensures end { EndsAt (length columns.entry.cols.now) (reach_at C.reach_of columns.entry.cols.now)
+        columns.entry.gaps.list.now (length_at C.length_of columns.entry.cols.now)
         force result }
     ensures begins { pos 0 ≤ℤ result }
     ensures small { result ≤ℤ pos (2 ^ 49) }
     ensures few { placed.new.tight.count ≤ 2 ^ 26 }
     ensures natural { placed.new.tight.natural ≤ 2 ^ 46 }
-    ensures near { AreLinear (length cols.now) (length_at C.length_of cols.now)
+    ensures near { AreLinear (length columns.entry.cols.now) (length_at C.length_of columns.entry.cols.now)
         → (g drop width : ℕ) → g + drop ≡ force
-        → CanStandWithin (length cols.now) (reach_at C.reach_of cols.now) gaps.now (length_at C.length_of cols.now)
+        → CanStandWithin (length columns.entry.cols.now) (reach_at C.reach_of columns.entry.cols.now)
+        columns.entry.gaps.list.now (length_at C.length_of columns.entry.cols.now)
         width g
         → result ≤ℤ pos (width + slack placed.new.tight.natural placed.new.tight.count drop) }
 {
-    *placed = place_all(cols, gaps, force, at, front, *placed);
+    *placed = place_all(columns, force, at, front, *placed);
+    let SpacedColumns { cols, gaps, .. } = columns;
     let last = cols.len() - 1;
-    end_of(&cols[last], gaps.len(), at[last])
+    end_of(&cols[last], gaps.list.len(), at[last])
 }
 
 /// Returns `None` if the columns end within the width at a force. Otherwise returns a force, at
 /// most the given one, from which on they can't.
 fn too_great<C: Spaced + LinearSpring>(
-    cols: &[C],
-    gaps: &[u32],
+    columns: SpacedColumns<'_, C>,
     width: u32,
     force: u16,
     at: &mut [i64],
     front: &mut [i64],
     placed: &mut Progress,
 ) -> Option<u16>
-    requires some { 0 < length cols.now }
-    requires few { length cols.now ≤ 2 ^ 26 }
-    requires lanes { length gaps.now < 2 ^ 32 }
-    requires narrow { (lane : ℕ) → lane < length gaps.now → slice_index gaps.now lane ≤ 2 ^ 20 }
-    requires room { length cols.now ≤ length at.old }
-    requires one_each { length front.old ≡ length gaps.now }
-    requires placed { HasPlaced (length cols.now) (reach_at C.reach_of cols.now) gaps.now
-        (length_at C.length_of cols.now) placed.old at.old front.old }
-    ensures placed { HasPlaced (length cols.now) (reach_at C.reach_of cols.now) gaps.now
-        (length_at C.length_of cols.now) placed.new at.new front.new }
+    requires few { length columns.cols.now ≤ 2 ^ 26 }
+    requires room { length columns.cols.now ≤ length at.old }
+    requires one_each { length front.old ≡ length columns.gaps.list.now }
+    requires placed { HasPlaced (length columns.cols.now) (reach_at C.reach_of columns.cols.now) columns.gaps.list.now
+        (length_at C.length_of columns.cols.now) placed.old at.old front.old }
+    ensures placed { HasPlaced (length columns.entry.cols.now) (reach_at C.reach_of columns.entry.cols.now)
+        columns.entry.gaps.list.now
+        (length_at C.length_of columns.entry.cols.now) placed.new at.new front.new }
     ensures fits { IfNone result
-        (Fits (length cols.now) (reach_at C.reach_of cols.now) gaps.now (length_at C.length_of cols.now) width force) }
+        (Fits (length columns.entry.cols.now) (reach_at C.reach_of columns.entry.cols.now) columns.entry.gaps.list.now
+        (length_at C.length_of columns.entry.cols.now) width force) }
     ensures below { IfSome result (λ past. past ≤ force) }
     ensures never { IfSome result (λ past. (g : ℕ) → past ≤ g → g < 2 ^ 16
-        → CanStandWithin (length cols.now) (reach_at C.reach_of cols.now) gaps.now (length_at C.length_of cols.now)
+        → CanStandWithin (length columns.entry.cols.now) (reach_at C.reach_of columns.entry.cols.now)
+        columns.entry.gaps.list.now (length_at C.length_of columns.entry.cols.now)
         width g
         → ⊥) }
 {
-    let end = end_at(cols, gaps, force, at, front, placed);
+    let end = end_at(columns, force, at, front, placed);
     if end <= i64::from(width) {
         return None;
     }
@@ -129,41 +129,39 @@ fn head_of<C: Spring>(cols: &[C]) -> usize
 /// `at` has an entry per column and `front` one per lane. A search for columns that continue others
 /// resumes from the columns that `placed` counts, if it begins at their force. Takes no memory.
 pub fn fit_within<C: Spaced + LinearSpring>(
-    cols: &[C],
-    gaps: &[u32],
+    columns: SpacedColumns<'_, C>,
     width: u32,
     most: u16,
     at: &mut [i64],
     front: &mut [i64],
     placed: &mut Progress,
 ) -> Option<u16>
-    requires some { 0 < length cols.now }
-    requires few { length cols.now ≤ 2 ^ 26 }
-    requires lanes { length gaps.now < 2 ^ 32 }
-    requires narrow { (lane : ℕ) → lane < length gaps.now → slice_index gaps.now lane ≤ 2 ^ 20 }
+    requires few { length columns.cols.now ≤ 2 ^ 26 }
     requires most { most ≤ 2048 }
-    requires room { length cols.now ≤ length at.old }
-    requires one_each { length front.old ≡ length gaps.now }
-    requires placed { HasPlaced (length cols.now) (reach_at C.reach_of cols.now) gaps.now
-        (length_at C.length_of cols.now) placed.old at.old front.old }
-    ensures placed { HasPlaced (length cols.now) (reach_at C.reach_of cols.now) gaps.now
-        (length_at C.length_of cols.now) placed.new at.new front.new }
-    ensures greatest { IsGreatestForce (length cols.now) (reach_at C.reach_of cols.now) gaps.now
-        (length_at C.length_of cols.now) width most result }
+    requires room { length columns.cols.now ≤ length at.old }
+    requires one_each { length front.old ≡ length columns.gaps.list.now }
+    requires placed { HasPlaced (length columns.cols.now) (reach_at C.reach_of columns.cols.now) columns.gaps.list.now
+        (length_at C.length_of columns.cols.now) placed.old at.old front.old }
+    ensures placed { HasPlaced (length columns.entry.cols.now) (reach_at C.reach_of columns.entry.cols.now)
+        columns.entry.gaps.list.now
+        (length_at C.length_of columns.entry.cols.now) placed.new at.new front.new }
+    ensures greatest { IsGreatestForce (length columns.entry.cols.now) (reach_at C.reach_of columns.entry.cols.now)
+        columns.entry.gaps.list.now
+        (length_at C.length_of columns.entry.cols.now) width most result }
 {
     let mut low = 0;
     let mut high = if 0 < placed.count {
         most + 1
     } else {
-        let head = head_of(cols);
-        *placed = place_to(cols, gaps, most, at, front, *placed, head);
-        too_long(cols, width, at, *placed)
+        let head = head_of(columns.cols);
+        *placed = place_to(columns, most, at, front, *placed, head);
+        too_long(columns.cols, width, at, *placed)
     };
     let mut half = 8196;
     while low < high {
         let force = highest(low, high, half);
         half = half.div_ceil(2);
-        match too_great(cols, gaps, width, force, at, front, placed) {
+        match too_great(columns, width, force, at, front, placed) {
             None => low = force + 1,
             Some(past) => high = past,
         }

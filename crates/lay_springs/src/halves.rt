@@ -2,6 +2,7 @@ ghost use Rattle.std.specs.Prelude.{◌≡◌, ◌+◌, ◌^◌, ◌<◌, ◌≤
 ghost use Rattle.lay_springs.specs.Fit.{Fits, IsGreatestForce, Passes};
 ghost use Rattle.lay_springs.specs.Place.{reach_at, length_at};
 
+use crate::columns::{Gaps, SpacedColumns};
 use crate::forces::end_at;
 use crate::progress::Progress;
 use crate::traits::{Spaced, Spring};
@@ -11,51 +12,46 @@ const MOST_FORCE: u16 = 2048;
 
 /// Returns whether the columns end within the width at a force.
 fn fits_at<C: Spaced + Spring>(
-    cols: &[C],
-    gaps: &[u32],
+    columns: SpacedColumns<'_, C>,
     width: u32,
     force: u16,
     at: &mut [i64],
     front: &mut [i64],
 ) -> bool
-    requires some { 0 < length cols.now }
-    requires few { length cols.now ≤ 2 ^ 26 }
-    requires lanes { length gaps.now < 2 ^ 32 }
-    requires narrow { (lane : ℕ) → lane < length gaps.now → slice_index gaps.now lane ≤ 2 ^ 20 }
-    requires room { length cols.now ≤ length at.old }
-    requires one_each { length front.old ≡ length gaps.now }
+    requires few { length columns.cols.now ≤ 2 ^ 26 }
+    requires room { length columns.cols.now ≤ length at.old }
+    requires one_each { length front.old ≡ length columns.gaps.list.now }
     ensures fits { result ≡ true
-        → Fits (length cols.now) (reach_at C.reach_of cols.now) gaps.now (length_at C.length_of cols.now) width force }
+        → Fits (length columns.entry.cols.now) (reach_at C.reach_of columns.entry.cols.now) columns.entry.gaps.list.now
+        (length_at C.length_of columns.entry.cols.now) width force }
     ensures passes { result ≡ false
-        → Passes (length cols.now) (reach_at C.reach_of cols.now) gaps.now (length_at C.length_of cols.now) width
+        → Passes (length columns.entry.cols.now) (reach_at C.reach_of columns.entry.cols.now)
+        columns.entry.gaps.list.now (length_at C.length_of columns.entry.cols.now) width
         force }
 {
-    end_at(cols, gaps, force, at, front, &mut Progress::none()) <= i64::from(width)
+    end_at(columns, force, at, front, &mut Progress::none()) <= i64::from(width)
 }
 
 /// Returns the greatest force at which the columns end within the width, as `fit` does. `at` has an
 /// entry per column and `front` one per lane.
 fn greatest<C: Spaced + Spring>(
-    cols: &[C],
-    gaps: &[u32],
+    columns: SpacedColumns<'_, C>,
     width: u32,
     at: &mut [i64],
     front: &mut [i64],
 ) -> Option<u16>
-    requires some { 0 < length cols.now }
-    requires few { length cols.now ≤ 2 ^ 26 }
-    requires lanes { length gaps.now < 2 ^ 32 }
-    requires narrow { (lane : ℕ) → lane < length gaps.now → slice_index gaps.now lane ≤ 2 ^ 20 }
-    requires room { length cols.now ≤ length at.old }
-    requires one_each { length front.old ≡ length gaps.now }
-    ensures { IsGreatestForce (length cols.now) (reach_at C.reach_of cols.now) gaps.now
-        (length_at C.length_of cols.now) width 2048 result }
+    requires few { length columns.cols.now ≤ 2 ^ 26 }
+    requires room { length columns.cols.now ≤ length at.old }
+    requires one_each { length front.old ≡ length columns.gaps.list.now }
+    ensures { IsGreatestForce (length columns.entry.cols.now) (reach_at C.reach_of columns.entry.cols.now)
+        columns.entry.gaps.list.now
+        (length_at C.length_of columns.entry.cols.now) width 2048 result }
 {
     let mut low = 0;
     let mut high = MOST_FORCE + 1;
     while low < high {
         let middle = (low + high) / 2;
-        if fits_at(cols, gaps, width, middle, at, front) {
+        if fits_at(columns, width, middle, at, front) {
             low = middle + 1;
         } else {
             high = middle;
@@ -69,9 +65,9 @@ fn greatest<C: Spaced + Spring>(
 /// columns at each that it tries. `fit_within` gives the same for linear springs, in fewer tries.
 ///
 /// `scratch` has an entry per column and one per lane. Takes no memory.
-pub fn fit<C: Spaced + Spring>(
-    cols: &[C],
-    gaps: &[u32],
+pub fn fit<'a, C: Spaced + Spring>(
+    cols: &'a [C],
+    gaps: &'a [u32],
     width: u32,
     scratch: &mut [i64],
 ) -> Option<u16>
@@ -84,5 +80,9 @@ pub fn fit<C: Spaced + Spring>(
         (length_at C.length_of cols.now) width 2048 result }
 {
     let (at, front) = scratch.split_at_mut(cols.len());
-    greatest(cols, gaps, width, at, &mut front[..gaps.len()])
+    let columns = SpacedColumns {
+        cols,
+        gaps: Gaps { list: gaps },
+    };
+    greatest(columns, width, at, &mut front[..gaps.len()])
 }

@@ -4,6 +4,7 @@ ghost use Rattle.lay_springs.specs.ReachView.{reach_in};
 ghost use Rattle.lay_springs.specs.Place.{reach_at, length_at, AreLinear, IsPlace, IsPlacedTo, IsNearLeast};
 ghost use Rattle.lay_springs.specs.Place.{AreFrontiers, HasPlaced, IsPast, IsFirst, IsSomewhere, Advances, IsInside};
 
+use crate::columns::{Gaps, SpacedColumns};
 use crate::progress::{Progress, TightSprings};
 use crate::traits::{LaneReach, Reach, ReachView, Spaced, Spring, reach_in};
 use mus_units::{Memory, Row};
@@ -35,19 +36,19 @@ fn past_end(end: i64, room: u32, from: i64) -> i64
 }
 
 /// Returns the least abscissa that is at least `from` and past the frontier of each lane.
-fn past_each(row: &[Option<Reach>], gaps: &[u32], front: &[i64], from: i64) -> i64
-    requires lanes { length gaps.now < 2 ^ 32 }
-    requires narrow { (lane : ℕ) → lane < length gaps.now → slice_index gaps.now lane ≤ 2 ^ 20 }
-    requires room { length front.now ≡ length gaps.now }
-    requires nowhere { (lane : ℕ) → lane < length gaps.now → IsSomewhere (slice_index_or front.now lane (pos 0)) }
+fn past_each(row: &[Option<Reach>], gaps: Gaps<'_>, front: &[i64], from: i64) -> i64
+    requires room { length front.now ≡ length gaps.list.now }
+    requires nowhere { (lane : ℕ) → lane < length gaps.list.now → IsSomewhere (slice_index_or front.now lane (pos 0)) }
     requires begins { pos 0 ≤ℤ from }
-    requires small { (lane : ℕ) → lane < length gaps.now → slice_index_or front.now lane (pos 0) ≤ℤ pos (2 ^ 61) }
+    requires small { (lane : ℕ) → lane < length gaps.list.now → slice_index_or front.now lane (pos 0) ≤ℤ pos (2 ^ 61) }
     ensures kept { from ≤ℤ result }
-    ensures clear { IsPast (reach_in row.now) gaps.now (length gaps.now) front.now result }
+    ensures clear { IsPast (reach_in row.now) gaps.entry.list.now (length gaps.entry.list.now) front.now result }
     ensures least { (v : ℤ)
-        → from ≤ℤ v → IsPast (reach_in row.now) gaps.now (length gaps.now) front.now v → result ≤ℤ v }
+        → from ≤ℤ v → IsPast (reach_in row.now) gaps.entry.list.now (length gaps.entry.list.now) front.now v → result
+        ≤ℤ v }
 {
     let mut next = from;
+    let gaps = gaps.list;
     for lane in 0..row.len().min(gaps.len()) {
         let Some(s) = reach_in(row, lane) else {
             continue;
@@ -91,18 +92,17 @@ fn begun_at(reach: Option<Reach>, at: i64) -> i64
 
 /// Sets a column at the least abscissa that is at least `from` and past the frontier of each of its
 /// lanes, and advances those frontiers.
-fn set_past<C: Spaced>(col: &C, gaps: &[u32], from: i64, front: &mut [i64]) -> i64
-    requires lanes { length gaps.now < 2 ^ 32 }
-    requires narrow { (lane : ℕ) → lane < length gaps.now → slice_index gaps.now lane ≤ 2 ^ 20 }
-    requires room { length front.old ≡ length gaps.now }
-    requires nowhere { (lane : ℕ) → lane < length gaps.now → IsSomewhere (slice_index_or front.old lane (pos 0)) }
-    requires small { (lane : ℕ) → lane < length gaps.now → slice_index_or front.old lane (pos 0) ≤ℤ pos (2 ^ 61) }
+fn set_past<C: Spaced>(col: &C, gaps: Gaps<'_>, from: i64, front: &mut [i64]) -> i64
+    requires room { length front.old ≡ length gaps.list.now }
+    requires nowhere { (lane : ℕ) → lane < length gaps.list.now → IsSomewhere (slice_index_or front.old lane (pos 0)) }
+    requires small { (lane : ℕ) → lane < length gaps.list.now → slice_index_or front.old lane (pos 0) ≤ℤ pos (2 ^ 61) }
     requires begins { pos 0 ≤ℤ from }
     requires near { from ≤ℤ pos (2 ^ 60) }
     ensures kept { from ≤ℤ result }
-    ensures clear { IsPast (C.reach_of col.now) gaps.now (length gaps.now) front.old result }
+    ensures clear { IsPast (C.reach_of col.now) gaps.entry.list.now (length gaps.entry.list.now) front.old result }
     ensures least { (v : ℤ)
-        → from ≤ℤ v → IsPast (C.reach_of col.now) gaps.now (length gaps.now) front.old v → result ≤ℤ v }
+        → from ≤ℤ v → IsPast (C.reach_of col.now) gaps.entry.list.now (length gaps.entry.list.now) front.old v → result
+        ≤ℤ v }
     ensures noted { (lane : ℕ) → lane < length front.old
         → Advances (C.reach_of col.now lane) result (slice_index_or front.old lane (pos 0))
         (slice_index_or front.new lane (pos 0)) }
@@ -112,6 +112,7 @@ fn set_past<C: Spaced>(col: &C, gaps: &[u32], from: i64, front: &mut [i64]) -> i
         ReachView::EachLane(row) => return set_past_each(row, gaps, from, front),
     };
     let lane = stand.lane as usize;
+    let gaps = gaps.list;
     if lane >= gaps.len() {
         return from;
     }
@@ -122,18 +123,17 @@ fn set_past<C: Spaced>(col: &C, gaps: &[u32], from: i64, front: &mut [i64]) -> i
 
 /// As `set_past`, for a column whose reaches are a row.
 #[inline(never)]
-fn set_past_each(row: &[Option<Reach>], gaps: &[u32], from: i64, front: &mut [i64]) -> i64
-    requires lanes { length gaps.now < 2 ^ 32 }
-    requires narrow { (lane : ℕ) → lane < length gaps.now → slice_index gaps.now lane ≤ 2 ^ 20 }
-    requires room { length front.old ≡ length gaps.now }
-    requires nowhere { (lane : ℕ) → lane < length gaps.now → IsSomewhere (slice_index_or front.old lane (pos 0)) }
-    requires small { (lane : ℕ) → lane < length gaps.now → slice_index_or front.old lane (pos 0) ≤ℤ pos (2 ^ 61) }
+fn set_past_each(row: &[Option<Reach>], gaps: Gaps<'_>, from: i64, front: &mut [i64]) -> i64
+    requires room { length front.old ≡ length gaps.list.now }
+    requires nowhere { (lane : ℕ) → lane < length gaps.list.now → IsSomewhere (slice_index_or front.old lane (pos 0)) }
+    requires small { (lane : ℕ) → lane < length gaps.list.now → slice_index_or front.old lane (pos 0) ≤ℤ pos (2 ^ 61) }
     requires begins { pos 0 ≤ℤ from }
     requires near { from ≤ℤ pos (2 ^ 60) }
     ensures kept { from ≤ℤ result }
-    ensures clear { IsPast (reach_in row.now) gaps.now (length gaps.now) front.old result }
+    ensures clear { IsPast (reach_in row.now) gaps.entry.list.now (length gaps.entry.list.now) front.old result }
     ensures least { (v : ℤ)
-        → from ≤ℤ v → IsPast (reach_in row.now) gaps.now (length gaps.now) front.old v → result ≤ℤ v }
+        → from ≤ℤ v → IsPast (reach_in row.now) gaps.entry.list.now (length gaps.entry.list.now) front.old v → result
+        ≤ℤ v }
     ensures noted { (lane : ℕ) → lane < length front.old
         → Advances (reach_in row.now lane) result (slice_index_or front.old lane (pos 0))
         (slice_index_or front.new lane (pos 0)) }
@@ -197,34 +197,31 @@ fn after(before: i64, spring: u32) -> i64
 /// Places `count` columns in one pass, which keeps the frontier of each lane. Resumes from the
 /// columns that are already placed at this force.
 pub(crate) fn place_to<C: Spaced + Spring>(
-    cols: &[C],
-    gaps: &[u32],
+    columns: SpacedColumns<'_, C>,
     force: u16,
     at: &mut [i64],
     front: &mut [i64],
     placed: Progress,
     count: usize,
 ) -> Progress
-    requires some { 0 < length cols.now }
-    requires few { length cols.now ≤ 2 ^ 26 }
-    requires lanes { length gaps.now < 2 ^ 32 }
-    requires narrow { (lane : ℕ) → lane < length gaps.now → slice_index gaps.now lane ≤ 2 ^ 20 }
-    requires room { length cols.now ≤ length at.old }
-    requires one_each { length front.old ≡ length gaps.now }
-    requires placed { HasPlaced (length cols.now) (reach_at C.reach_of cols.now) gaps.now
-        (length_at C.length_of cols.now) placed at.old front.old }
-    requires within { count ≤ length cols.now }
+    requires few { length columns.cols.now ≤ 2 ^ 26 }
+    requires room { length columns.cols.now ≤ length at.old }
+    requires one_each { length front.old ≡ length columns.gaps.list.now }
+    requires placed { HasPlaced (length columns.cols.now) (reach_at C.reach_of columns.cols.now) columns.gaps.list.now
+        (length_at C.length_of columns.cols.now) placed at.old front.old }
+    requires within { count ≤ length columns.cols.now }
     ensures force { result.force ≡ force }
     ensures some { 0 < result.count }
     ensures count { count ≤ result.count }
-    ensures placed { HasPlaced (length cols.now) (reach_at C.reach_of cols.now) gaps.now
-        (length_at C.length_of cols.now) result at.new front.new }
+    ensures placed { HasPlaced (length columns.entry.cols.now) (reach_at C.reach_of columns.entry.cols.now)
+        columns.entry.gaps.list.now
+        (length_at C.length_of columns.entry.cols.now) result at.new front.new }
 {
-    let begun = begun(cols, gaps, force, at, front, placed);
+    let begun = begun(columns, force, at, front, placed);
     let count = begun.count.max(count);
     let mut tight = begun.tight;
     for j in begun.count..count {
-        tight = place_next(cols, gaps, force, at, front, j, tight);
+        tight = place_next(columns, force, at, front, j, tight);
     }
     Progress {
         force,
@@ -235,60 +232,58 @@ pub(crate) fn place_to<C: Spaced + Spring>(
 
 /// Places all columns, as `place_to` does.
 pub(crate) fn place_all<C: Spaced + Spring>(
-    cols: &[C],
-    gaps: &[u32],
+    columns: SpacedColumns<'_, C>,
     force: u16,
     at: &mut [i64],
     front: &mut [i64],
     placed: Progress,
 ) -> Progress
-    requires some { 0 < length cols.now }
-    requires few { length cols.now ≤ 2 ^ 26 }
-    requires lanes { length gaps.now < 2 ^ 32 }
-    requires narrow { (lane : ℕ) → lane < length gaps.now → slice_index gaps.now lane ≤ 2 ^ 20 }
-    requires room { length cols.now ≤ length at.old }
-    requires one_each { length front.old ≡ length gaps.now }
-    requires placed { HasPlaced (length cols.now) (reach_at C.reach_of cols.now) gaps.now
-        (length_at C.length_of cols.now) placed at.old front.old }
+    requires few { length columns.cols.now ≤ 2 ^ 26 }
+    requires room { length columns.cols.now ≤ length at.old }
+    requires one_each { length front.old ≡ length columns.gaps.list.now }
+    requires placed { HasPlaced (length columns.cols.now) (reach_at C.reach_of columns.cols.now) columns.gaps.list.now
+        (length_at C.length_of columns.cols.now) placed at.old front.old }
     ensures few { result.tight.count ≤ 2 ^ 26 }
     ensures natural { result.tight.natural ≤ 2 ^ 46 }
-    ensures near { AreLinear (length cols.now) (length_at C.length_of cols.now)
-        → IsNearLeast (length cols.now) (reach_at C.reach_of cols.now) gaps.now (length_at C.length_of cols.now) force
+    ensures near { AreLinear (length columns.entry.cols.now) (length_at C.length_of columns.entry.cols.now)
+        → IsNearLeast (length columns.entry.cols.now) (reach_at C.reach_of columns.entry.cols.now)
+        columns.entry.gaps.list.now (length_at C.length_of columns.entry.cols.now) force
         result.tight.natural result.tight.count at.new }
-    ensures placed { HasPlaced (length cols.now) (reach_at C.reach_of cols.now) gaps.now
-        (length_at C.length_of cols.now) result at.new front.new }
-    ensures place { IsPlace (length cols.now) (reach_at C.reach_of cols.now) gaps.now
-        (length_at C.length_of cols.now force) (take (length cols.now) at.new) }
-    ensures small { (k : ℕ) → k < length cols.now
+    ensures placed { HasPlaced (length columns.entry.cols.now) (reach_at C.reach_of columns.entry.cols.now)
+        columns.entry.gaps.list.now
+        (length_at C.length_of columns.entry.cols.now) result at.new front.new }
+    ensures place { IsPlace (length columns.entry.cols.now) (reach_at C.reach_of columns.entry.cols.now)
+        columns.entry.gaps.list.now
+        (length_at C.length_of columns.entry.cols.now force) (take (length columns.entry.cols.now) at.new) }
+    ensures small { (k : ℕ) → k < length columns.entry.cols.now
         → (pos 0 ≤ℤ slice_index_or at.new k (pos 0)) × (slice_index_or at.new k (pos 0) ≤ℤ pos (2 ^ 48)) }
 {
-    place_to(cols, gaps, force, at, front, placed, cols.len())
+    place_to(columns, force, at, front, placed, columns.cols.len())
 }
 
 /// Returns the columns that are placed at this force. If none is, places the first.
 fn begun<C: Spaced + Spring>(
-    cols: &[C],
-    gaps: &[u32],
+    columns: SpacedColumns<'_, C>,
     force: u16,
     at: &mut [i64],
     front: &mut [i64],
     placed: Progress,
 ) -> Progress
-    requires some { 0 < length cols.now }
-    requires lanes { length gaps.now < 2 ^ 32 }
-    requires room { length cols.now ≤ length at.old }
-    requires one_each { length front.old ≡ length gaps.now }
-    requires placed { HasPlaced (length cols.now) (reach_at C.reach_of cols.now) gaps.now
-        (length_at C.length_of cols.now) placed at.old front.old }
+    requires room { length columns.cols.now ≤ length at.old }
+    requires one_each { length front.old ≡ length columns.gaps.list.now }
+    requires placed { HasPlaced (length columns.cols.now) (reach_at C.reach_of columns.cols.now) columns.gaps.list.now
+        (length_at C.length_of columns.cols.now) placed at.old front.old }
     ensures force { result.force ≡ force }
     ensures some { 0 < result.count }
-    ensures placed { HasPlaced (length cols.now) (reach_at C.reach_of cols.now) gaps.now
-        (length_at C.length_of cols.now) result at.new front.new }
+    ensures placed { HasPlaced (length columns.entry.cols.now) (reach_at C.reach_of columns.entry.cols.now)
+        columns.entry.gaps.list.now
+        (length_at C.length_of columns.entry.cols.now) result at.new front.new }
 {
     if 0 < placed.count && placed.force == force {
         return placed;
     }
-    let first = first_at(cols, gaps.len(), at, placed.count);
+    let SpacedColumns { cols, gaps, .. } = columns;
+    let first = first_at(cols, gaps.list.len(), at, placed.count);
     at[0] = first;
     begin_fronts(&cols[0], first, front);
     Progress {
@@ -304,30 +299,32 @@ fn begun<C: Spaced + Spring>(
 /// Places column j (j > 0), given the tight springs so far. Returns them, including the spring
 /// before column j if that spring alone determines its place.
 fn place_next<C: Spaced + Spring>(
-    cols: &[C],
-    gaps: &[u32],
+    columns: SpacedColumns<'_, C>,
     force: u16,
     at: &mut [i64],
     front: &mut [i64],
     j: usize,
     tight: TightSprings,
 ) -> TightSprings
-    requires few { length cols.now ≤ 2 ^ 26 }
-    requires lanes { length gaps.now < 2 ^ 32 }
-    requires narrow { (lane : ℕ) → lane < length gaps.now → slice_index gaps.now lane ≤ 2 ^ 20 }
-    requires room { length cols.now ≤ length at.old }
-    requires one_each { length front.old ≡ length gaps.now }
+    requires few { length columns.cols.now ≤ 2 ^ 26 }
+    requires room { length columns.cols.now ≤ length at.old }
+    requires one_each { length front.old ≡ length columns.gaps.list.now }
     requires past { 0 < j }
-    requires inside { j < length cols.now }
+    requires inside { j < length columns.cols.now }
     requires tight { (tight.natural ≤ 1048576 * j) × (tight.count ≤ j) }
-    requires placed { IsPlacedTo j (reach_at C.reach_of cols.now) gaps.now (length_at C.length_of cols.now) force
+    requires placed { IsPlacedTo j (reach_at C.reach_of columns.cols.now) columns.gaps.list.now
+        (length_at C.length_of columns.cols.now) force
         tight.natural tight.count at.old }
-    requires fronts { AreFrontiers j (reach_at C.reach_of cols.now) (length gaps.now) at.old front.old }
+    requires fronts { AreFrontiers j (reach_at C.reach_of columns.cols.now) (length columns.gaps.list.now) at.old
+        front.old }
     ensures tight { (result.natural ≤ 1048576 * (j + 1)) × (result.count ≤ j + 1) }
-    ensures placed { IsPlacedTo (j + 1) (reach_at C.reach_of cols.now) gaps.now (length_at C.length_of cols.now) force
+    ensures placed { IsPlacedTo (j + 1) (reach_at C.reach_of columns.entry.cols.now) columns.entry.gaps.list.now
+        (length_at C.length_of columns.entry.cols.now) force
         result.natural result.count at.new }
-    ensures fronts { AreFrontiers (j + 1) (reach_at C.reach_of cols.now) (length gaps.now) at.new front.new }
+    ensures fronts { AreFrontiers (j + 1) (reach_at C.reach_of columns.entry.cols.now)
+        (length columns.entry.gaps.list.now) at.new front.new }
 {
+    let SpacedColumns { cols, gaps, .. } = columns;
     let before = at[j - 1];
     let natural = cols[j - 1].length(256);
     let spring = cols[j - 1].length(force);
@@ -375,10 +372,10 @@ fn begin_fronts<C: Spaced>(col: &C, at: i64, front: &mut [i64])
 /// Returns the least list of abscissas at a force, in u: pointwise least among all lists that begin
 /// at 0 or later, keep each lane's gap between the reaches of every two columns in it, leave 100
 /// between neighbors and keep each spring. One pass over the columns.
-pub fn place<C: Spaced + Spring>(
+pub fn place<'a, C: Spaced + Spring>(
     alloc: Global,
-    cols: &[C],
-    gaps: &[u32],
+    cols: &'a [C],
+    gaps: &'a [u32],
     force: u16,
 ) -> Result<Row<i64>, Memory>
     requires some { 0 < length cols.now }
@@ -390,6 +387,10 @@ pub fn place<C: Spaced + Spring>(
 {
     let mut at = vec![in alloc; 0; cols.len()]?;
     let mut front = vec![in alloc; 0; gaps.len()]?;
-    place_all(cols, gaps, force, &mut at, &mut front, Progress::none());
+    let columns = SpacedColumns {
+        cols,
+        gaps: Gaps { list: gaps },
+    };
+    place_all(columns, force, &mut at, &mut front, Progress::none());
     Ok(Row { items: at })
 }

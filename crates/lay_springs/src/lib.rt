@@ -5,6 +5,7 @@
 //! reaches and a spring length.
 #![tactic(auto)]
 
+pub mod columns;
 pub mod forces;
 mod guesses;
 pub mod halves;
@@ -13,6 +14,7 @@ pub mod margin;
 pub mod progress;
 pub mod traits;
 
+pub use columns::{Gaps, SpacedColumns};
 pub use forces::{fit_within, longer_fits_less, most_columns, one_force};
 pub use halves::fit;
 pub use least::place;

@@ -3,6 +3,7 @@ ghost use Rattle.std.specs.Prelude.{slice_index, slice_index_or};
 ghost use Rattle.lay_springs.specs.{Fit.{IsEndOf, Fits, IsSet}, Justified.IsJustifiedAt};
 ghost use Rattle.lay_springs.specs.Place.{reach_at, length_at, StandApart};
 
+use crate::columns::{Gaps, SpacedColumns};
 use crate::forces::end_of;
 use crate::least::place_all;
 use crate::progress::Progress;
@@ -46,58 +47,59 @@ fn share(rest: u32, k: usize, last: usize) -> i64
 }
 
 /// Returns what the width leaves past the end.
-fn rest_of<C: Spaced>(cols: &[C], gaps: &[u32], width: u32, at: &[i64]) -> u32
-    requires some { 0 < length cols.now }
-    requires lanes { length gaps.now < 2 ^ 32 }
-    requires room { length at.now ≡ length cols.now }
-    requires begins { pos 0 ≤ℤ slice_index_or at.now (length cols.now - 1) (pos 0) }
-    requires small { slice_index_or at.now (length cols.now - 1) (pos 0) ≤ℤ pos (2 ^ 60) }
-    requires fits { (e : ℤ) → IsEndOf (reach_at C.reach_of cols.now (length cols.now - 1)) (length gaps.now)
-        (slice_index_or at.now (length cols.now - 1) (pos 0)) e → e ≤ℤ pos width }
-    ensures { (e : ℤ) × IsEndOf (reach_at C.reach_of cols.now (length cols.now - 1)) (length gaps.now)
-        (slice_index_or at.now (length cols.now - 1) (pos 0)) e × ((e +ℤ pos result) ≡ pos width) }
+fn rest_of<C: Spaced>(columns: SpacedColumns<'_, C>, width: u32, at: &[i64]) -> u32
+    requires room { length at.now ≡ length columns.cols.now }
+    requires begins { pos 0 ≤ℤ slice_index_or at.now (length columns.cols.now - 1) (pos 0) }
+    requires small { slice_index_or at.now (length columns.cols.now - 1) (pos 0) ≤ℤ pos (2 ^ 60) }
+    requires fits { (e : ℤ) → IsEndOf (reach_at C.reach_of columns.cols.now (length columns.cols.now - 1))
+        (length columns.gaps.list.now)
+        (slice_index_or at.now (length columns.cols.now - 1) (pos 0)) e → e ≤ℤ pos width }
+    ensures { (e : ℤ) × IsEndOf (reach_at C.reach_of columns.entry.cols.now (length columns.entry.cols.now - 1))
+        (length columns.entry.gaps.list.now)
+        (slice_index_or at.now (length columns.entry.cols.now - 1) (pos 0)) e × ((e +ℤ pos result) ≡ pos width) }
 {
+    let SpacedColumns { cols, gaps, .. } = columns;
     let last = cols.len() - 1;
-    (i64::from(width) - end_of(&cols[last], gaps.len(), at[last])) as u32
+    (i64::from(width) - end_of(&cols[last], gaps.list.len(), at[last])) as u32
 }
 
 /// Places the columns and sets them to the width.
 fn set<C: Spaced + Spring>(
-    cols: &[C],
-    gaps: &[u32],
+    columns: SpacedColumns<'_, C>,
     width: u32,
     force: u16,
     at: &mut [i64],
     front: &mut [i64],
 )
-    requires some { 0 < length cols.now }
-    requires few { length cols.now ≤ 2 ^ 26 }
-    requires lanes { length gaps.now < 2 ^ 32 }
-    requires narrow { (lane : ℕ) → lane < length gaps.now → slice_index gaps.now lane ≤ 2 ^ 20 }
-    requires room { length at.old ≡ length cols.now }
-    requires one_each { length front.old ≡ length gaps.now }
-    requires fits { Fits (length cols.now) (reach_at C.reach_of cols.now) gaps.now (length_at C.length_of cols.now)
+    requires few { length columns.cols.now ≤ 2 ^ 26 }
+    requires room { length at.old ≡ length columns.cols.now }
+    requires one_each { length front.old ≡ length columns.gaps.list.now }
+    requires fits { Fits (length columns.cols.now) (reach_at C.reach_of columns.cols.now) columns.gaps.list.now
+        (length_at C.length_of columns.cols.now)
         width force }
-    ensures set { IsSet (length cols.now) (reach_at C.reach_of cols.now) gaps.now (length_at C.length_of cols.now) width
+    ensures set { IsSet (length columns.entry.cols.now) (reach_at C.reach_of columns.entry.cols.now)
+        columns.entry.gaps.list.now (length_at C.length_of columns.entry.cols.now) width
         force at.new }
-    ensures apart { StandApart (length cols.now) (reach_at C.reach_of cols.now) gaps.now
-        (length_at C.length_of cols.now force) at.new }
+    ensures apart { StandApart (length columns.entry.cols.now) (reach_at C.reach_of columns.entry.cols.now)
+        columns.entry.gaps.list.now
+        (length_at C.length_of columns.entry.cols.now force) at.new }
 {
-    place_all(cols, gaps, force, at, front, Progress::none());
+    place_all(columns, force, at, front, Progress::none());
+    let cols = columns.cols;
     if cols.len() == 1 {
         return;
     }
-    let rest = rest_of(cols, gaps, width, at);
+    let rest = rest_of(columns, width, at);
     spread(at, rest);
 }
 
 /// Sets the columns to the width, at a force at which they end within it: column k of n moves right
 /// by `rest * k / (n - 1)`, where `rest` is what the width leaves past the end. A last system at a
 /// force of 256 or more is ragged and stays as placed at 256.
-pub fn justify<C: Spaced + Spring>(
+pub fn justify<'a, C: Spaced + Spring>(
     alloc: Global,
-    cols: &[C],
-    gaps: &[u32],
+    cols: &'a [C],
+    gaps: &'a [u32],
     width: u32,
     force: u16,
     last: bool,
@@ -113,15 +115,19 @@ pub fn justify<C: Spaced + Spring>(
 {
     let mut at = vec![in alloc; 0; cols.len()]?;
     let mut front = vec![in alloc; 0; gaps.len()]?;
+    let columns = SpacedColumns {
+        cols,
+        gaps: Gaps { list: gaps },
+    };
     if last && force >= 256 {
-        place_all(cols, gaps, 256, &mut at, &mut front, Progress::none());
+        place_all(columns, 256, &mut at, &mut front, Progress::none());
         return Ok(Placed {
             force: 256,
             ragged: true,
             at: Row { items: at },
         });
     }
-    set(cols, gaps, width, force, &mut at, &mut front);
+    set(columns, width, force, &mut at, &mut front);
     Ok(Placed {
         force,
         ragged: false,

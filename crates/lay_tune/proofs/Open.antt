@@ -121,7 +121,7 @@ was_some f (Some force) h = refl
 pub chosen_read : (s : Score) (width : ℕ) (starts others : List (List Column)) (spans : FittingSpans)
     (gaps forced breaks bars : List ℕ)
     → length starts ≡ s.measures → gaps ≡ score_gaps s → bars ≡ breaks
-    → AreMeasures column_reach (length (score_gaps s)) starts others
+    → AreMeasures column_reach (length gaps) starts others
     → AreColumnsOf s starts others
     → HaveForces column_reach column_length gaps width starts others (is_forced (length starts) forced) spans.rows.rows
     → width < 2 ^ 32
@@ -134,7 +134,7 @@ chosen_read s width starts others spans gaps forced breaks bars count is ends me
     subst (λ these. AllSpans (CanBeSet s width spans.rows.rows) 0 these) (sym ends)
     (all_open (CanBeSet s width rows) (listed spans.list) s.measures
     (λ a b l m some.
-    span_open s width starts others rows (length (score_gaps s)) (is_forced (length starts) forced) count measures join
+    span_open s width starts others rows (length gaps) (is_forced (length starts) forced) count measures join
     (subst (λ these. HaveForces column_reach column_length these width starts others (is_forced (length starts) forced)
     spans.rows.rows) is h)
     narrow a b l m

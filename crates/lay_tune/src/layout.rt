@@ -10,14 +10,14 @@ ghost use Rattle.lay_tune.specs.Layout.{IsCauseIn, IsLayout, layout_error};
 ghost use Rattle.lay_tune.specs.Measured.{IsMeasured};
 ghost use Rattle.lay_tune.specs.Spans.{AreColumnsOf, verses_of};
 
-use crate::measures::{columns_of_measures, others_of};
+use crate::measures::{columns_of_measures, measures_in, others_of};
 use crate::systems::{Measured, set_systems};
 use eng_jobs::Jobs;
 use lay_breaks::{BreakError, Breaking, Span};
 use lay_columns::{measures_join, staff_verses};
 use lay_pages::Heights;
 use lay_reaches::{Column, gaps_of};
-use lay_spans::{BorrowedColumns, break_of, spans_of};
+use lay_spans::{break_of, spans_of};
 use lay_springs::Placed;
 use mus_drawn::DrawnVoice;
 use mus_laid::SystemMarks;
@@ -82,14 +82,12 @@ fn lay_out_measures<R: Threads + Sync>(
 {
     let Measured {
         score,
-        starts,
-        others,
-        gaps,
+        measures,
         width,
         ..
     } = *measured;
     let forced = score.forced.as_slice();
-    let spans = spans_of(rt, alloc, starts, others, gaps, width, forced, jobs)?;
+    let spans = spans_of(rt, alloc, measures, width, forced, jobs)?;
     let breaking = match break_of(alloc, &spans, forced, score.measures) {
         Ok(breaking) => breaking,
         Err(error) => return Err(layout_error(error)),
@@ -134,12 +132,14 @@ pub fn lay_out<R: Threads + Sync>(
     let columns = columns_of_measures(alloc, s, voices, &t, verses)?;
     let further = others_of(alloc, s, &columns)?;
     let gaps = gaps_of(alloc, verses)?;
+    let starts = columns.starts.as_slice();
+    let others = further.as_slice();
+    let list = gaps.as_slice();
+    let measures = measures_in(starts, others, list);
     let measured = Measured {
         score: s,
         times: &t,
-        starts: columns.starts.as_slice(),
-        others: further.as_slice(),
-        gaps: gaps.as_slice(),
+        measures: &measures,
         width,
     };
     measures_join();

@@ -1,13 +1,15 @@
-ghost use Rattle.std.specs.Prelude.{◌≡◌, ◌≤◌, ◌<◌, ◌-◌, All, IfOk, length, map};
+ghost use Rattle.std.specs.Prelude.{◌≡◌, ◌≤◌, ◌<◌, ◌^◌, ◌-◌, ℕ, All, IfOk, length, map, slice_index};
 ghost use Rattle.mus_score.specs.GoodScore.{IsGoodScore};
 ghost use Rattle.mus_onsets.specs.Onsets.{timeline_of};
 ghost use Rattle.mus_drawn.specs.Drawn.{drawn_voice};
 ghost use Rattle.mus_drawn.specs.Good.{AreGoodMeasures};
+ghost use Rattle.{lay_reaches.specs.Columns.{column_reach}, lay_spans.specs.Columns.{AreMeasures}};
 ghost use Rattle.lay_tune.specs.{Measures.{EachFurther, EachMeasure, IsMeasure}, Spans.verses_of};
 
 use lay_columns::{further_columns, further_of, measure_columns};
 use lay_reaches::Column;
-use lay_spans::BorrowedColumns;
+use lay_spans::{BorrowedColumns, Measures};
+use lay_springs::Gaps;
 use mus_drawn::DrawnVoice;
 use mus_onsets::Timeline;
 use mus_score::Score;
@@ -72,4 +74,24 @@ pub(crate) fn others_of<'a>(
         others.push(BorrowedColumns { columns })?;
     }
     Ok(others)
+}
+
+/// Returns the measures with these columns, which keep the gaps of the list.
+pub(crate) fn measures_in<'a>(
+    starts: &'a [Row<Column>],
+    others: &'a [BorrowedColumns<'a, Column>],
+    list: &'a [u32],
+) -> Measures<'a, Column>
+    requires measures { AreMeasures column_reach (length list.now) starts.now others.now }
+    requires lanes { length list.now < 2 ^ 32 }
+    requires narrow { (lane : ℕ) → lane < length list.now → slice_index list.now lane ≤ 2 ^ 20 }
+    ensures starts { result.starts.now ≡ starts.now }
+    ensures others { result.others.now ≡ others.now }
+    ensures gaps { result.gaps.list.now ≡ list.now }
+{
+    Measures {
+        starts,
+        others,
+        gaps: Gaps { list },
+    }
 }

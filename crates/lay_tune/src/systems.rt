@@ -9,8 +9,8 @@ use crate::gaps::gaps_between;
 use lay_pages::{Heights, stack};
 use lay_reaches::Column;
 use lay_rows::Rows;
-use lay_spans::{BorrowedColumn, BorrowedColumns, columns_in};
-use lay_springs::{Placed, justify};
+use lay_spans::{BorrowedColumn, Measures, columns_in};
+use lay_springs::{Gaps, Placed, justify};
 use mus_drawn::DrawnVoice;
 use mus_laid::SystemMarks;
 use mus_marks::tilt_of;
@@ -19,15 +19,12 @@ use mus_score::Score;
 use mus_units::{Memory, Row};
 use std::alloc::Global;
 
-/// A score and what its systems are set by: its times; the columns of each measure, `starts` where
-/// it begins a system, `others` where it doesn't; the gaps of their lanes; and the width, in u.
+/// A score and what its systems are set by: its times, its measures and the width, in u.
 #[derive(Drop)]
 pub(crate) struct Measured<'a> {
     pub(crate) score: &'a Score,
     pub(crate) times: &'a Timeline,
-    pub(crate) starts: &'a [Row<Column>],
-    pub(crate) others: &'a [BorrowedColumns<'a, Column>],
-    pub(crate) gaps: &'a [u32],
+    pub(crate) measures: &'a Measures<'a, Column>,
     pub(crate) width: u32,
 }
 
@@ -35,17 +32,15 @@ pub(crate) struct Measured<'a> {
 fn press(
     alloc: Global,
     columns: &[BorrowedColumn<Column>],
-    gaps: &[u32],
+    gaps: Gaps<'_>,
     width: u32,
     last: bool,
     force: u16,
 ) -> Result<Placed, Memory>
-    requires lanes { length gaps.now < 2 ^ 32 }
-    requires narrow { (lane : ℕ) → lane < length gaps.now → slice_index gaps.now lane ≤ 2 ^ 20 }
-    requires fits { HaveForce gaps.now width force (map (λ s. s.column.now) columns.now) }
-    ensures { IfOk result (IsJustified gaps.now width last (map (λ s. s.column.now) columns.now)) }
+    requires fits { HaveForce gaps.list.now width force (map (λ s. s.column.now) columns.now) }
+    ensures { IfOk result (IsJustified gaps.entry.list.now width last (map (λ s. s.column.now) columns.now)) }
 {
-    justify(alloc, columns, gaps, width, force, last)
+    justify(alloc, columns, gaps.list, width, force, last)
 }
 
 /// Returns the keys of columns.
@@ -89,11 +84,17 @@ fn set_system(
         unreachable!();
     };
     let score = measured.score;
-    let (starts, others) = (measured.starts, measured.others);
-    let seen = columns_in(alloc, starts, others, a as usize, b as usize)?;
+    let seen = columns_in(alloc, measured.measures, a as usize, b as usize)?;
     let columns = seen.as_slice();
     let last = b == score.measures;
-    let placed = press(alloc, columns, measured.gaps, measured.width, last, force)?;
+    let placed = press(
+        alloc,
+        columns,
+        measured.measures.gaps,
+        measured.width,
+        last,
+        force,
+    )?;
     let keys = keys_in(alloc, columns)?;
     let at = placed.at.as_slice();
     let marks = tilt_of(alloc, score, voices, measured.times, a, b, keys, at)?;

@@ -6,7 +6,9 @@ use crate::stopped::StoppedColumn;
 use case_texts::{Case, CaseError, Mistake, Report, count_at, number_at, numbers_of, put_placed};
 use lay_reaches::Column;
 use lay_rows::badness;
-use lay_springs::{Progress, Reach, Spaced, Spring, fit, fit_within, justify, place};
+use lay_springs::{
+    Gaps, Progress, Reach, Spaced, SpacedColumns, Spring, fit, fit_within, justify, place,
+};
 use mus_onsets::{Class, ColumnKey};
 use mus_units::Row;
 use std::alloc::Global;
@@ -88,7 +90,11 @@ fn put_within(out: &mut Report, columns: &[Column], width: u32, most: u32) -> Re
     let mut at = vec![in out.alloc; 0i64; columns.len()]?;
     let front = &mut [0i64; 2];
     let mut placed = Progress::none();
-    let force = fit_within(columns, &GAPS, width, most, &mut at, front, &mut placed);
+    let columns = SpacedColumns {
+        cols: columns,
+        gaps: Gaps { list: &GAPS },
+    };
+    let force = fit_within(columns, width, most, &mut at, front, &mut placed);
     put_force(out, force)
 }
 

@@ -7,17 +7,18 @@ use Rattle.lay_spans.specs.SpanList.{HasForce, IsForce}
 use Rattle.lay_spans.proofs.Adding.{columns_some}
 use Rattle.lay_spans.proofs.Fitting.{force_of, seen_as, still_above, never_stands}
 use Rattle.lay_spans.proofs.Growing.{placed_more, seen_more, forces_more, free_more, stops_at, stops_after}
-use Rattle.lay_spans.proofs.rows.row_from.Goals.{After-as_slice-columns, After-greatest_force, In_ok-push}
+use Rattle.lay_spans.proofs.rows.row_from.Goals.{After-as_slice-cols, After-greatest_force, In_ok-push}
 use Rattle.lay_spans.proofs.rows.row_from.Goals as goal
 
-columns : (g : _) (c : After-as_slice-columns g)
-    → map (λ s. s.column.now) c.as_slice-columns.result.now
-    ≡ span_columns c.args.starts.now c.args.others.now c.args.a (c.loop-m.m + 1)
+columns : (g : _) (c : After-as_slice-cols g)
+    → map (λ s. s.column.now) c.as_slice-cols.result.now
+    ≡ span_columns c.args.measures.now.starts.now c.args.measures.now.others.now c.args.a (c.loop-m.m + 1)
 columns g c =
-    ap (λ seen. map (λ s. s.column.now) seen) c.as_slice-columns.ensures
-    ∙ seen_more (λ s. s.column.now) c.loop-m.seen c.see.new.seen c.args.starts.now c.args.others.now c.args.a c.loop-m.m
+    ap (λ seen. map (λ s. s.column.now) seen) c.as_slice-cols.ensures
+    ∙ seen_more (λ s. s.column.now) c.loop-m.seen c.see.new.seen c.args.measures.now.starts.now
+    c.args.measures.now.others.now c.args.a c.loop-m.m
     (let l = c.loop-m.invariant.count in omega arith) (let l = c.loop-m-test.true in omega arith)
-    c.requires.measures.same c.loop-m.invariant.columns
+    c.args.measures.now.measured.same c.loop-m.invariant.columns
     (c.in_ok-see.ensures ∙ ap (λ r. map (λ s. s.column.now) c.loop-m.seen ++ r) c.measure.ensures)
 
 -- what the search wrote is in the borrowed slices
@@ -32,14 +33,17 @@ at_is g c =
 -- no longer span fits
 pub returns-in_default : goal.returns-in_default
 returns-in_default g c =
-    let b = (goal.at.returns-in_default g c).After-as_slice-columns in
-    stops_at g.C.Spaced.reach_of g.C.Spring.length_of c.args.gaps.now c.args.width c.args.starts.now c.args.others.now
+    let b = (goal.at.returns-in_default g c).After-as_slice-cols in
+    stops_at g.C.Spaced.reach_of g.C.Spring.length_of c.args.measures.now.gaps.list.now c.args.width
+    c.args.measures.now.starts.now c.args.measures.now.others.now
     (λ b. slice_index_or c.args.marks.now b false)
-    c.args.a c.loop-m.m c.loop-m.row c.requires.measures c.requires.inside (let l = c.loop-m-test.true in omega arith)
+    c.args.a c.loop-m.m c.loop-m.row c.args.measures.now.measured c.requires.inside
+    (let l = c.loop-m-test.true in omega arith)
     c.loop-m.invariant.count c.loop-m.invariant.each
-    (never_stands (λ s. s.column.now) g.C.Spaced.reach_of g.C.Spring.length_of c.args.gaps.now c.args.width
-    c.as_slice-columns.result.now
-    (span_columns c.args.starts.now c.args.others.now c.args.a (c.loop-m.m + 1)) (columns g b)
+    (never_stands (λ s. s.column.now) g.C.Spaced.reach_of g.C.Spring.length_of c.args.measures.now.gaps.list.now
+    c.args.width
+    c.as_slice-cols.result.now
+    (span_columns c.args.measures.now.starts.now c.args.measures.now.others.now c.args.a (c.loop-m.m + 1)) (columns g b)
     c.in_default.ensures.none)
 
 count : (g : _) (c : In_ok-push g) → c.args.a + length c.push.new.self ≡ c.loop-m.m + 1
@@ -51,24 +55,30 @@ count g c =
 
 -- the span with this measure
 module _ (g : _) (c : In_ok-push g)
-    (seen : map (λ s. s.column.now) c.as_slice-columns.result.now
-    ≡ span_columns c.args.starts.now c.args.others.now c.args.a (c.loop-m.m + 1)) where
+    (seen : map (λ s. s.column.now) c.as_slice-cols.result.now
+    ≡ span_columns c.args.measures.now.starts.now c.args.measures.now.others.now c.args.a (c.loop-m.m + 1)) where
   abbrev Has : ℕ → ℕ → Type 0
   Has b f =
-      HasForce g.C.Spaced.reach_of g.C.Spring.length_of c.args.gaps.now c.args.width c.args.starts.now c.args.others.now
+      HasForce g.C.Spaced.reach_of g.C.Spring.length_of c.args.measures.now.gaps.list.now c.args.width
+      c.args.measures.now.starts.now c.args.measures.now.others.now
       (λ b. slice_index_or c.args.marks.now b false) c.args.a b f
 
-  force : IsForce g.C.Spaced.reach_of g.C.Spring.length_of c.args.gaps.now c.args.width
-      (span_columns c.args.starts.now c.args.others.now c.args.a (c.loop-m.m + 1)) c.in-Some.force
+  force : IsForce g.C.Spaced.reach_of g.C.Spring.length_of c.args.measures.now.gaps.list.now c.args.width
+      (span_columns c.args.measures.now.starts.now c.args.measures.now.others.now c.args.a (c.loop-m.m + 1))
+      c.in-Some.force
   force =
-      force_of (λ s. s.column.now) g.C.Spaced.reach_of g.C.Spring.length_of c.args.gaps.now c.args.width c.loop-m.most
-      c.as_slice-columns.result.now
-      (span_columns c.args.starts.now c.args.others.now c.args.a (c.loop-m.m + 1)) c.in-Some.force seen
+      force_of (λ s. s.column.now) g.C.Spaced.reach_of g.C.Spring.length_of c.args.measures.now.gaps.list.now
+      c.args.width c.loop-m.most
+      c.as_slice-cols.result.now
+      (span_columns c.args.measures.now.starts.now c.args.measures.now.others.now c.args.a (c.loop-m.m + 1))
+      c.in-Some.force seen
       c.loop-m.invariant.most
       c.in-Some.ensures.bound c.in-Some.ensures.fits c.in-Some.ensures.greatest
-      (still_above g.C.Spaced.reach_of g.C.Spring.length_of c.args.gaps.now c.args.width c.loop-m.most c.args.starts.now
-      c.args.others.now c.args.a c.loop-m.m
-      c.requires.measures c.requires.inside (let l = c.loop-m-test.true in omega arith) c.loop-m.invariant.above)
+      (still_above g.C.Spaced.reach_of g.C.Spring.length_of c.args.measures.now.gaps.list.now c.args.width
+      c.loop-m.most c.args.measures.now.starts.now
+      c.args.measures.now.others.now c.args.a c.loop-m.m
+      c.args.measures.now.measured c.requires.inside (let l = c.loop-m-test.true in omega arith)
+      c.loop-m.invariant.above)
 
   has : Has (c.loop-m.m + 1) c.in-Some.force
   has = record { free = λ h. c.loop-m.invariant.free h.0 h.1 h.2 h.3; pressed = force }
@@ -77,16 +87,18 @@ module _ (g : _) (c : In_ok-push g)
   each =
       subst (λ row. (k : ℕ) → k < length row → Has (c.args.a + 1 + k) (slice_index_or row k 0))
       (sym c.in_ok-push.ensures.ok)
-      (forces_more g.C.Spaced.reach_of g.C.Spring.length_of c.args.gaps.now c.args.width c.args.starts.now
-      c.args.others.now (λ b. slice_index_or c.args.marks.now b false)
+      (forces_more g.C.Spaced.reach_of g.C.Spring.length_of c.args.measures.now.gaps.list.now c.args.width
+      c.args.measures.now.starts.now
+      c.args.measures.now.others.now (λ b. slice_index_or c.args.marks.now b false)
       c.args.a c.loop-m.m c.loop-m.row c.in-Some.force c.loop-m.invariant.count c.loop-m.invariant.each has)
 
 pub returns-then-marks-m : goal.returns-then-marks-m
 returns-then-marks-m g c =
-    let b = (goal.at.returns-then-marks-m g c).After-as_slice-columns in
+    let b = (goal.at.returns-then-marks-m g c).After-as_slice-cols in
     let pushed = (goal.at.returns-then-marks-m g c).In_ok-push in
-    stops_after g.C.Spaced.reach_of g.C.Spring.length_of c.args.gaps.now c.args.width c.args.starts.now
-    c.args.others.now (λ b. slice_index_or c.args.marks.now b false)
+    stops_after g.C.Spaced.reach_of g.C.Spring.length_of c.args.measures.now.gaps.list.now c.args.width
+    c.args.measures.now.starts.now
+    c.args.measures.now.others.now (λ b. slice_index_or c.args.marks.now b false)
     c.args.a c.loop-m.m c.push.new.self (let l = c.loop-m-test.true in omega arith) (count g pushed)
     (let l = c.loop-m.invariant.count in omega arith)
     (each g pushed (columns g b))
@@ -94,12 +106,12 @@ returns-then-marks-m g c =
 
 pub loop-m-preserved : goal.loop-m-preserved
 loop-m-preserved g c =
-    let b = (goal.at.loop-m-preserved g c).After-as_slice-columns in
+    let b = (goal.at.loop-m-preserved g c).After-as_slice-cols in
     let pushed = (goal.at.loop-m-preserved g c).In_ok-push in
     let pressed = force g pushed (columns g b) in
     let l = c.loop-m.invariant.count in let lent = (goal.at.loop-m-preserved g c).After-greatest_force in
     record {
-      columns = sym (ap (λ seen. map (λ s. s.column.now) seen) c.as_slice-columns.ensures) ∙ columns g b;
+      columns = sym (ap (λ seen. map (λ s. s.column.now) seen) c.as_slice-cols.ensures) ∙ columns g b;
       count = count g pushed;
       each = each g pushed (columns g b);
       free =
@@ -109,14 +121,15 @@ loop-m-preserved g c =
       room =
           ap (λ at. length at) (at_is g lent)
           ∙ (c.greatest_force.auto.at ∙ (c.deref_mut.ensures.len ∙ (c.in_ok-resize.ensures.len
-          ∙ (sym (length-map c.as_slice-columns.result.now (λ s. s.column.now))
+          ∙ (sym (length-map c.as_slice-cols.result.now (λ s. s.column.now))
           ∙ ap (λ cs. length cs) (columns g b)))));
       placed = rw (at_is g lent) (subst (λ T. T)
           (seen_as (λ s. s.column.now) g.C.Spaced.reach_of g.C.Spring.length_of
           (λ n r l.
-          HasPlaced n r c.args.gaps.now l c.greatest_force.new.placed c.greatest_force.new.at
+          HasPlaced n r c.args.measures.now.gaps.list.now l c.greatest_force.new.placed c.greatest_force.new.at
           c.greatest_force.new.front)
-          c.as_slice-columns.result.now (span_columns c.args.starts.now c.args.others.now c.args.a (c.loop-m.m + 1))
+          c.as_slice-cols.result.now (span_columns c.args.measures.now.starts.now c.args.measures.now.others.now
+          c.args.a (c.loop-m.m + 1))
           (columns g b))
           c.greatest_force.ensures.placed);
       above = λ g past within. (omega arith, pressed.greatest g past within);
@@ -125,8 +138,9 @@ loop-m-preserved g c =
 pub loop-m-init : goal.loop-m-init
 loop-m-init g c =
     let e : c.args.a - c.args.a ≡ 0 = omega arith in
-    let none : span_columns c.args.starts.now c.args.others.now c.args.a c.args.a ≡ [] =
-    ap (λ k. flat_map (λ measure. measure) (take k (measures_from c.args.starts.now c.args.others.now c.args.a))) e in
+    let none : span_columns c.args.measures.now.starts.now c.args.measures.now.others.now c.args.a c.args.a ≡ [] =
+    ap (λ k. flat_map (λ measure. measure) (take k (measures_from c.args.measures.now.starts.now
+    c.args.measures.now.others.now c.args.a))) e in
     record {
       columns = ap (λ seen. map (λ s. s.column.now) seen) c.in_ok-seen.ensures ∙ sym none;
       count = let row = ap (λ row. length row) c.in_ok-row.ensures in omega arith;
@@ -138,21 +152,21 @@ loop-m-init g c =
       above = λ f l k. absurd (omega arith);
     }
 
-pub greatest_force-requires-clause-some : goal.greatest_force-requires-clause-some
-greatest_force-requires-clause-some g c =
+pub invariant_of-columns : goal.invariant_of-columns
+invariant_of-columns g c =
     let count =
-    ap (λ cs. length cs) (columns g (goal.at.greatest_force-requires-clause-some g c).After-as_slice-columns) in
-    let same = length-map c.as_slice-columns.result.now (λ s. s.column.now) in
-    let some = columns_some c.args.starts.now c.args.others.now c.args.a (c.loop-m.m + 1)
-    (let l = c.loop-m.invariant.count in omega arith) (c.requires.measures.begun c.args.a c.requires.inside) in
-    omega (arith, count, same, some)
+    ap (λ cs. length cs) (columns g (goal.at.invariant_of-columns g c).After-as_slice-cols) in
+    let same = length-map c.as_slice-cols.result.now (λ s. s.column.now) in
+    let some = columns_some c.args.measures.now.starts.now c.args.measures.now.others.now c.args.a (c.loop-m.m + 1)
+    (let l = c.loop-m.invariant.count in omega arith) (c.args.measures.now.measured.begun c.args.a c.requires.inside) in
+    record { some = omega (arith, count, same, some) }
 
 pub greatest_force-requires-clause-placed : goal.greatest_force-requires-clause-placed
 greatest_force-requires-clause-placed g c =
-    placed_more (λ s. s.column.now) g.C.Spaced.reach_of g.C.Spring.length_of c.args.gaps.now
-    c.loop-m.placed c.loop-m.at.items c.deref_mut.result.now _ c.loop-m.front c.as_slice-columns.result.now
-    c.args.starts.now c.args.others.now c.args.a c.loop-m.m
+    placed_more (λ s. s.column.now) g.C.Spaced.reach_of g.C.Spring.length_of c.args.measures.now.gaps.list.now
+    c.loop-m.placed c.loop-m.at.items c.deref_mut.result.now _ c.loop-m.front c.as_slice-cols.result.now
+    c.args.measures.now.starts.now c.args.measures.now.others.now c.args.a c.loop-m.m
     (let l = c.loop-m.invariant.count in omega arith) (let l = c.loop-m-test.true in omega arith)
-    c.requires.measures.same
-    (columns g (goal.at.greatest_force-requires-clause-placed g c).After-as_slice-columns) c.loop-m.invariant.room
+    c.args.measures.now.measured.same
+    (columns g (goal.at.greatest_force-requires-clause-placed g c).After-as_slice-cols) c.loop-m.invariant.room
     (c.deref_mut.ensures.value ∙ c.in_ok-resize.ensures.items) c.loop-m.invariant.placed

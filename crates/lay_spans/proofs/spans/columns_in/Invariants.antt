@@ -4,4 +4,8 @@ use Rattle.lay_spans.proofs.spans.columns_in.Given as goal
 
 abbrev pub invariant-loop-m : goal.invariant-loop-m
 invariant-loop-m g l =
-    record { columns : map (λ s. s.column.now) l.seen ≡ span_columns l.starts l.others l.a l.m; past : l.a ≤ l.m }
+    record {
+      columns : map (λ s. s.column.now) l.seen ≡ span_columns l.measures.starts.now l.measures.others.now l.a
+          l.m;
+      past : l.a ≤ l.m;
+    }

@@ -11,29 +11,33 @@ use Rattle.lay_springs.proofs.forces.end_at.Goals.{After-end_of}
 use Rattle.lay_springs.proofs.forces.end_at.Goals as goal
 
 module _ (g : _) (c : After-end_of g) where
-  last : (pos 0 ≤ℤ slice_index_or c.place_all.new.at (length c.args.cols.now - 1) (pos 0))
-      × (slice_index_or c.place_all.new.at (length c.args.cols.now - 1) (pos 0) ≤ℤ pos 281474976710656)
-  last = c.place_all.ensures.small (length c.args.cols.now - 1) (let s = c.requires.some in omega arith)
+  last : (pos 0 ≤ℤ slice_index_or c.place_all.new.at (length c.args.columns.cols.now - 1) (pos 0))
+      × (slice_index_or c.place_all.new.at (length c.args.columns.cols.now - 1) (pos 0) ≤ℤ pos 281474976710656)
+  last = c.place_all.ensures.small (length c.args.columns.cols.now - 1) (let s = c.args.columns.some in omega arith)
 
-  end : IsEndOf (g.C.Spaced.reach_of c.index-cols-last.result) (length c.args.gaps.now)
-      (slice_index_or c.place_all.new.at (length c.args.cols.now - 1) (pos 0)) c.end_of.result
+  end : IsEndOf (g.C.Spaced.reach_of c.index-cols-last.result) (length c.args.columns.gaps.list.now)
+      (slice_index_or c.place_all.new.at (length c.args.columns.cols.now - 1) (pos 0)) c.end_of.result
   end =
       let low = last.0 in let high = last.1 in
-      let same : to_z w64 (of_z w64 (slice_index_or c.place_all.new.at (length c.args.cols.now - 1) (pos 0))) ≡
-      slice_index_or c.place_all.new.at (length c.args.cols.now - 1) (pos 0) = omega (arith, ints) in
+      let same : to_z w64 (of_z w64 (slice_index_or c.place_all.new.at (length c.args.columns.cols.now - 1) (pos 0))) ≡
+      slice_index_or c.place_all.new.at (length c.args.columns.cols.now - 1) (pos 0) = omega (arith, ints) in
       rw same at c.end_of.ensures
 
-  last_end : IsEndOf (reach_at g.C.Spaced.reach_of c.args.cols.now (length c.args.cols.now - 1))
-      (length c.args.gaps.now) (slice_index_or c.place_all.new.at (length c.args.cols.now - 1) (pos 0))
+  last_end : IsEndOf (reach_at g.C.Spaced.reach_of c.args.columns.cols.now (length c.args.columns.cols.now - 1))
+      (length c.args.columns.gaps.list.now) (slice_index_or c.place_all.new.at (length c.args.columns.cols.now - 1)
+      (pos 0))
       c.end_of.result
   last_end =
-      let col : slice_get c.args.cols.now (length c.args.cols.now - 1) ≡ Some c.index-cols-last.result =
-      slice_get_read c.args.cols.now (length c.args.cols.now) (length c.args.cols.now - 1) c.index-cols-last.result refl
-      (let s = c.requires.some in omega arith) c.index-cols-last.is in
+      let col : slice_get c.args.columns.cols.now (length c.args.columns.cols.now - 1) ≡ Some c.index-cols-last.result =
+      slice_get_read c.args.columns.cols.now (length c.args.columns.cols.now) (length c.args.columns.cols.now - 1)
+      c.index-cols-last.result refl
+      (let s = c.args.columns.some in omega arith) c.index-cols-last.is in
       subst (λ r.
-      IsEndOf r (length c.args.gaps.now) (slice_index_or c.place_all.new.at (length c.args.cols.now - 1) (pos 0))
+      IsEndOf r (length c.args.columns.gaps.list.now) (slice_index_or c.place_all.new.at
+      (length c.args.columns.cols.now - 1) (pos 0))
       c.end_of.result)
-      (sym (reach_is g.C.Spaced.reach_of c.args.cols.now (length c.args.cols.now - 1) c.index-cols-last.result col)) end
+      (sym (reach_is g.C.Spaced.reach_of c.args.columns.cols.now (length c.args.columns.cols.now - 1)
+      c.index-cols-last.result col)) end
 
   past : pos 0 ≤ℤ c.end_of.result
   past = let low = last.0 in let p = end.past in omega (arith, ints)
@@ -43,7 +47,8 @@ module _ (g : _) (c : After-end_of g) where
       let high = last.1 in
       end.least (pos 562949953421312) (omega (arith, ints)) (λ lane r l e.
       let near =
-      rw e at (g.met.C.Spaced.is_near c.index-cols-last.result lane (let f = c.requires.lanes in omega arith)) in
+      rw e at (g.met.C.Spaced.is_near c.index-cols-last.result lane (let f = c.args.columns.gaps.lanes in omega arith))
+      in
       let right = near.1 in
       omega (arith, ints))
 
@@ -54,11 +59,12 @@ pub returns-clause-end : goal.returns-clause-end
 returns-clause-end g c =
     let s = (goal.at.returns-clause-end g c).After-end_of in
     rw (same g s) (record {
-      x = take (length c.args.cols.now) c.place_all.new.at;
+      x = take (length c.args.columns.cols.now) c.place_all.new.at;
       place = c.place_all.ensures.place;
       end =
-          rw (get_or-take (length c.args.cols.now) c.place_all.new.at (length c.args.cols.now - 1) (pos 0)
-          (let some = c.requires.some in omega arith))
+          rw (get_or-take (length c.args.columns.cols.now) c.place_all.new.at (length c.args.columns.cols.now - 1)
+          (pos 0)
+          (let some = c.args.columns.some in omega arith))
           (last_end g s);
     })
 
@@ -72,7 +78,8 @@ returns-clause-small g c = let s = (goal.at.returns-clause-small g c).After-end_
 pub returns-clause-near : goal.returns-clause-near
 returns-clause-near g c = λ linear weak drop width is stood.
     let s = (goal.at.returns-clause-near g c).After-end_of in
-    rw (same g s) (end_near (length c.args.cols.now) (reach_at g.C.Spaced.reach_of c.args.cols.now) c.args.gaps.now
-    (length_at g.C.Spring.length_of c.args.cols.now) c.args.force c.place_all.result.tight.natural
-    c.place_all.result.tight.count c.place_all.new.at c.end_of.result c.requires.some
+    rw (same g s) (end_near (length c.args.columns.cols.now) (reach_at g.C.Spaced.reach_of c.args.columns.cols.now)
+    c.args.columns.gaps.list.now
+    (length_at g.C.Spring.length_of c.args.columns.cols.now) c.args.force c.place_all.result.tight.natural
+    c.place_all.result.tight.count c.place_all.new.at c.end_of.result c.args.columns.some
     (c.place_all.ensures.near linear) (last_end g s) weak drop width is stood)

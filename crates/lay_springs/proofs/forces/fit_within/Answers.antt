@@ -60,9 +60,11 @@ returns-then-low-eq0-clause-greatest g c = record {
   fits = tt;
   greatest = tt;
   none =
-      passes_at_none g.C.Spaced.reach_of g.C.Spring.length_of c.args.cols.now c.args.gaps.now c.args.width
-      c.requires.some
-      (λ col lane l. g.met.C.Spaced.is_near col lane (let few = c.requires.lanes in omega arith)) c.requires.narrow
+      passes_at_none g.C.Spaced.reach_of g.C.Spring.length_of c.args.columns.cols.now c.args.columns.gaps.list.now
+      c.args.width
+      c.args.columns.some
+      (λ col lane l. g.met.C.Spaced.is_near col lane (let few = c.args.columns.gaps.lanes in omega arith))
+      c.args.columns.gaps.narrow
       (λ col. g.met.C.Spring.is_short col 0 (omega arith))
       (c.loop-low.invariant.never 0
       (let done = c.loop-low-test.false in let none = c.if-low-eq0.true in omega arith) (omega arith));
@@ -98,8 +100,8 @@ loop-low-init g c =
             one_each = let o = c.requires.one_each in let a = w.place_to.auto.front in omega arith;
             fits = λ some. absurd (omega arith);
             never = λ f from within stood.
-                e.never c.args.gaps.now
-                (placed.placed.near (lengths_scale g.C.Spring.length_of c.args.cols.now w.place_to.result.count
+                e.never c.args.columns.gaps.list.now
+                (placed.placed.near (lengths_scale g.C.Spring.length_of c.args.columns.cols.now w.place_to.result.count
                 g.met.C.LinearSpring.scales))
                 f from (omega arith) stood;
           })

@@ -8,16 +8,19 @@ invariant-loop-low g l = record {
   within : l.high ≤ l.most + 1;
   few : l.high < l.low + 2 * l.half;
   short : l.half ≤ 8196;
-  room : length l.cols ≤ length l.at;
-  one_each : length l.front ≡ length l.gaps;
-  placed : HasPlaced (length l.cols) (reach_at g.C.Spaced.reach_of l.cols) l.gaps
-      (length_at g.C.Spring.length_of l.cols) l.placed l.at l.front;
+  room : length l.columns.cols.now ≤ length l.at;
+  one_each : length l.front ≡ length l.columns.gaps.list.now;
+  placed : HasPlaced (length l.columns.cols.now) (reach_at g.C.Spaced.reach_of l.columns.cols.now)
+      l.columns.gaps.list.now
+      (length_at g.C.Spring.length_of l.columns.cols.now) l.placed l.at l.front;
   fits : 0 < l.low
-      → Fits (length l.cols) (reach_at g.C.Spaced.reach_of l.cols) l.gaps (length_at g.C.Spring.length_of l.cols)
+      → Fits (length l.columns.cols.now) (reach_at g.C.Spaced.reach_of l.columns.cols.now) l.columns.gaps.list.now
+      (length_at g.C.Spring.length_of l.columns.cols.now)
       l.width (l.low - 1);
   never : (f : ℕ) → l.high ≤ f → f ≤ l.most
-      → CanStandWithin (length l.cols) (reach_at g.C.Spaced.reach_of l.cols) l.gaps
-      (length_at g.C.Spring.length_of l.cols) l.width f
+      → CanStandWithin (length l.columns.cols.now) (reach_at g.C.Spaced.reach_of l.columns.cols.now)
+      l.columns.gaps.list.now
+      (length_at g.C.Spring.length_of l.columns.cols.now) l.width f
       → ⊥;
 }
 

@@ -23,16 +23,18 @@ returns-clause-never g c = λ f from small stood.
       | inl less ↦ (
           let is : f + (c.args.force - f) ≡ c.args.force = omega arith in
           let near = c.end_at-end.ensures.near
-          (lengths_scale g.C.Spring.length_of c.args.cols.now (length c.args.cols.now) g.met.C.LinearSpring.scales)
+          (lengths_scale g.C.Spring.length_of c.args.columns.cols.now (length c.args.columns.cols.now)
+          g.met.C.LinearSpring.scales)
           f (c.args.force - f) c.args.width is stood in
           let far = c.lowered.ensures.past f (c.args.force - f) is (omega arith) from in
           let width = c.from-2.ensures in
           omega (arith, ints))
       | inr up ↦
-          cannot_stand (length c.args.cols.now) (reach_at g.C.Spaced.reach_of c.args.cols.now) c.args.gaps.now
-          (length_at g.C.Spring.length_of c.args.cols.now) c.args.width
-          c.args.force f c.requires.some
-          (length_rises g.C.Spring.length_of c.args.cols.now c.args.force f
+          cannot_stand (length c.args.columns.cols.now) (reach_at g.C.Spaced.reach_of c.args.columns.cols.now)
+          c.args.columns.gaps.list.now
+          (length_at g.C.Spring.length_of c.args.columns.cols.now) c.args.width
+          c.args.force f c.args.columns.some
+          (length_rises g.C.Spring.length_of c.args.columns.cols.now c.args.force f
           (λ col. g.met.C.Spring.rises col c.args.force f up small))
           (c.end_at-end.result, c.end_at-end.ensures.end, omega (arith, ints)) stood
     ]

@@ -14,10 +14,11 @@ loop-low-preserved g c =
       one_each = let o = i.one_each in let a = c.fits_at.auto.front in omega arith;
       fits = i.fits;
       never = λ f from within.
-          cannot_stand (length c.args.cols.now) (reach_at g.C.Spaced.reach_of c.args.cols.now) c.args.gaps.now
-          (length_at g.C.Spring.length_of c.args.cols.now) c.args.width
-          ((c.loop-low.low + c.loop-low.high) / 2) f c.requires.some
-          (length_rises g.C.Spring.length_of c.args.cols.now ((c.loop-low.low + c.loop-low.high) / 2) f
+          cannot_stand (length c.args.columns.cols.now) (reach_at g.C.Spaced.reach_of c.args.columns.cols.now)
+          c.args.columns.gaps.list.now
+          (length_at g.C.Spring.length_of c.args.columns.cols.now) c.args.width
+          ((c.loop-low.low + c.loop-low.high) / 2) f c.args.columns.some
+          (length_rises g.C.Spring.length_of c.args.columns.cols.now ((c.loop-low.low + c.loop-low.high) / 2) f
           (λ col. g.met.C.Spring.rises col ((c.loop-low.low + c.loop-low.high) / 2) f from (omega arith)))
           (c.if-fits_at.ensures.passes refl);
     }
@@ -39,9 +40,11 @@ returns-then-low-eq0 g c = record {
   fits = tt;
   greatest = tt;
   none =
-      passes_at_none g.C.Spaced.reach_of g.C.Spring.length_of c.args.cols.now c.args.gaps.now c.args.width
-      c.requires.some
-      (λ col lane l. g.met.C.Spaced.is_near col lane (let few = c.requires.lanes in omega arith)) c.requires.narrow
+      passes_at_none g.C.Spaced.reach_of g.C.Spring.length_of c.args.columns.cols.now c.args.columns.gaps.list.now
+      c.args.width
+      c.args.columns.some
+      (λ col lane l. g.met.C.Spaced.is_near col lane (let few = c.args.columns.gaps.lanes in omega arith))
+      c.args.columns.gaps.narrow
       (λ col. g.met.C.Spring.is_short col 0 (omega arith))
       (c.loop-low.invariant.never 0
       (let done = c.loop-low-test.false in let none = c.if-low-eq0.true in omega arith) (omega arith));

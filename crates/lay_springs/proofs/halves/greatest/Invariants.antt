@@ -6,14 +6,16 @@ abbrev pub invariant-loop-low : goal.invariant-loop-low
 invariant-loop-low g l = record {
   between : l.low ≤ l.high;
   within : l.high ≤ 2049;
-  room : length l.cols ≤ length l.at;
-  one_each : length l.front ≡ length l.gaps;
+  room : length l.columns.cols.now ≤ length l.at;
+  one_each : length l.front ≡ length l.columns.gaps.list.now;
   fits : 0 < l.low
-      → Fits (length l.cols) (reach_at g.C.Spaced.reach_of l.cols) l.gaps (length_at g.C.Spring.length_of l.cols)
+      → Fits (length l.columns.cols.now) (reach_at g.C.Spaced.reach_of l.columns.cols.now) l.columns.gaps.list.now
+      (length_at g.C.Spring.length_of l.columns.cols.now)
       l.width (l.low - 1);
   never : (f : ℕ) → l.high ≤ f → f ≤ 2048
-      → CanStandWithin (length l.cols) (reach_at g.C.Spaced.reach_of l.cols) l.gaps
-      (length_at g.C.Spring.length_of l.cols) l.width f
+      → CanStandWithin (length l.columns.cols.now) (reach_at g.C.Spaced.reach_of l.columns.cols.now)
+      l.columns.gaps.list.now
+      (length_at g.C.Spring.length_of l.columns.cols.now) l.width f
       → ⊥;
 }
 

@@ -10,7 +10,7 @@ loop-lane-preserved c =
     let here : reach_in c.args.row.now c.loop-lane.lane ≡ Some c.in-Some.s = sym c.reach_in.ensures ∙ c.in-Some.is in
     let i = c.loop-lane.invariant in
     let e = c.past_end-next.ensures in
-    let inside : c.loop-lane.lane < length c.args.gaps.now =
+    let inside : c.loop-lane.lane < length c.args.gaps.list.now =
     (let most = c.min-lane-end.ensures in let test = c.loop-lane-test.true in omega arith) in
     let high = c.requires.small c.loop-lane.lane inside in
     record {
@@ -30,7 +30,7 @@ overflow_add-gaps c =
     let here : reach_in c.args.row.now c.loop-lane.lane ≡ Some c.in-Some.s = sym c.reach_in.ensures ∙ c.in-Some.is in
     let near = rw here at (reach_in_near c.args.row.now c.loop-lane.lane) in
     let left = near.0 in
-    let gap = c.requires.narrow c.loop-lane.lane
+    let gap = c.args.gaps.narrow c.loop-lane.lane
     (let most = c.min-lane-end.ensures in let test = c.loop-lane-test.true in omega arith) in
     omega arith
 

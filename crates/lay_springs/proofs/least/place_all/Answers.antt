@@ -5,12 +5,13 @@ use Rattle.lay_springs.proofs.least.place_all.Goals.{After-place_to}
 use Rattle.lay_springs.proofs.least.place_all.Goals as goal
 
 all : (g : _) (c : After-place_to g)
-    → IsPlacedTo (length c.args.cols.now) (reach_at g.C.Spaced.reach_of c.args.cols.now) c.args.gaps.now
-    (length_at g.C.Spring.length_of c.args.cols.now) c.args.force
+    → IsPlacedTo (length c.args.columns.cols.now) (reach_at g.C.Spaced.reach_of c.args.columns.cols.now)
+    c.args.columns.gaps.list.now
+    (length_at g.C.Spring.length_of c.args.columns.cols.now) c.args.force
     c.place_to.result.tight.natural c.place_to.result.tight.count c.place_to.new.at
 all g c =
     let e = c.place_to.ensures in
-    let done : c.place_to.result.count ≡ length c.args.cols.now =
+    let done : c.place_to.result.count ≡ length c.args.columns.cols.now =
     let within = e.placed.within in let count = e.count in omega arith in
     rw (done, e.force) at e.placed.placed
 

@@ -26,33 +26,40 @@ module _ (g : _) (c : After-set_past-next g) where
   before_is = omega (arith, ints, low, high)
 
   -- the spring that was read, at a force, if the springs are linear
-  spring_at : AreLinear (c.args.j + 1) (length_at g.C.Spring.length_of c.args.cols.now) → (force : ℕ)
-      → length_at g.C.Spring.length_of c.args.cols.now force (c.args.j - 1) ≡ c.length-natural.result * force / 256
+  spring_at : AreLinear (c.args.j + 1) (length_at g.C.Spring.length_of c.args.columns.cols.now) → (force : ℕ)
+      → length_at g.C.Spring.length_of c.args.columns.cols.now force (c.args.j - 1) ≡ c.length-natural.result * force /
+      256
   spring_at linear force =
       linear force (c.args.j - 1) (omega arith)
       ∙ ap (λ n. n * force / 256)
-      (length_is g.C.Spring.length_of c.args.cols.now 256 (c.args.j - 1) c.index-cols-j.result
-      (slice_get_read c.args.cols.now (length c.args.cols.now) (c.args.j - 1) c.index-cols-j.result refl (omega arith)
+      (length_is g.C.Spring.length_of c.args.columns.cols.now 256 (c.args.j - 1) c.index-cols-j.result
+      (slice_get_read c.args.columns.cols.now (length c.args.columns.cols.now) (c.args.j - 1) c.index-cols-j.result
+      refl (omega arith)
       c.index-cols-j.is)
       ∙ sym c.length-natural.ensures)
 
   first_apart : (weak : ℕ → ℕ) (y : List ℤ)
-      → StandApart (c.args.j + 1) (reach_at g.C.Spaced.reach_of c.args.cols.now) c.args.gaps.now weak y
-      → StandApart c.args.j (reach_at g.C.Spaced.reach_of c.args.cols.now) c.args.gaps.now weak y
+      → StandApart (c.args.j + 1) (reach_at g.C.Spaced.reach_of c.args.columns.cols.now) c.args.columns.gaps.list.now
+      weak y
+      → StandApart c.args.j (reach_at g.C.Spaced.reach_of c.args.columns.cols.now) c.args.columns.gaps.list.now weak y
   first_apart weak y apart =
-      fewer_apart c.args.j (c.args.j + 1) _ _ c.args.gaps.now _ _ y (omega arith) (λ i lane l. refl) (λ i l. refl)
+      fewer_apart c.args.j (c.args.j + 1) _ _ c.args.columns.gaps.list.now _ _ y (omega arith) (λ i lane l. refl)
+      (λ i l. refl)
       apart
 
-  spring_is : length_at g.C.Spring.length_of c.args.cols.now c.args.force (c.args.j - 1) ≡ c.length-spring.result
+  spring_is : length_at g.C.Spring.length_of c.args.columns.cols.now c.args.force (c.args.j - 1) ≡
+      c.length-spring.result
   spring_is =
-      length_is g.C.Spring.length_of c.args.cols.now c.args.force (c.args.j - 1) c.index-cols-j-2.result
-      (slice_get_read c.args.cols.now (length c.args.cols.now) (c.args.j - 1) c.index-cols-j-2.result refl (omega arith)
+      length_is g.C.Spring.length_of c.args.columns.cols.now c.args.force (c.args.j - 1) c.index-cols-j-2.result
+      (slice_get_read c.args.columns.cols.now (length c.args.columns.cols.now) (c.args.j - 1) c.index-cols-j-2.result
+      refl (omega arith)
       c.index-cols-j-2.is)
       ∙ sym c.length-spring.ensures
 
-  col_is : reach_at g.C.Spaced.reach_of c.args.cols.now c.args.j ≡ g.C.Spaced.reach_of c.index-cols-j-3.result
-  col_is = reach_is g.C.Spaced.reach_of c.args.cols.now c.args.j c.index-cols-j-3.result
-      (slice_get_read c.args.cols.now (length c.args.cols.now) c.args.j c.index-cols-j-3.result refl (omega arith)
+  col_is : reach_at g.C.Spaced.reach_of c.args.columns.cols.now c.args.j ≡ g.C.Spaced.reach_of c.index-cols-j-3.result
+  col_is = reach_is g.C.Spaced.reach_of c.args.columns.cols.now c.args.j c.index-cols-j-3.result
+      (slice_get_read c.args.columns.cols.now (length c.args.columns.cols.now) c.args.j c.index-cols-j-3.result refl
+      (omega arith)
       c.index-cols-j-3.is)
 
   same : to_z w64 (of_z w64 v) ≡ v
@@ -67,13 +74,15 @@ module _ (g : _) (c : After-set_past-next g) where
       (omega (arith, ints, low, high)) in
       c.set_past-next.ensures.least (pos (1048576 + 3145728 * c.args.j)) (omega (arith, ints))
       (subst (λ r.
-      IsPast r c.args.gaps.now (length c.args.gaps.now) c.args.front.now (pos (1048576 + 3145728 * c.args.j)))
+      IsPast r c.args.columns.gaps.list.now (length c.args.columns.gaps.list.now) c.args.front.now
+      (pos (1048576 + 3145728 * c.args.j)))
       col_is
-      (past_bound _ c.args.gaps.now _ _ _ _ c.args.j c.args.at.now c.args.front.now c.requires.placed c.requires.fronts
+      (past_bound _ c.args.columns.gaps.list.now _ _ _ _ c.args.j c.args.at.now c.args.front.now c.requires.placed
+      c.requires.fronts
       (λ k lane lt.
-      near_at g.C.Spaced.reach_of c.args.cols.now _ lane
-      (λ col. g.met.C.Spaced.is_near col lane (let l = c.requires.lanes in omega arith)) k)
-      c.requires.narrow))
+      near_at g.C.Spaced.reach_of c.args.columns.cols.now _ lane
+      (λ col. g.met.C.Spaced.is_near col lane (let l = c.args.columns.gaps.lanes in omega arith)) k)
+      c.args.columns.gaps.narrow))
 
   past : ((slice_index_or c.args.at.now (c.args.j - 1) (pos 0) +ℤ pos 100) ≤ℤ v)
       × ((slice_index_or c.args.at.now (c.args.j - 1) (pos 0) +ℤ pos c.length-spring.result) ≤ℤ v)
@@ -84,7 +93,8 @@ module _ (g : _) (c : After-set_past-next g) where
 
   -- the column isn't past its abscissa in a list at most this far below, nor past the end of the spring
   from_near : (weak : ℕ → ℕ) (y : List ℤ) (d : ℕ)
-      → StandApart (c.args.j + 1) (reach_at g.C.Spaced.reach_of c.args.cols.now) c.args.gaps.now weak y
+      → StandApart (c.args.j + 1) (reach_at g.C.Spaced.reach_of c.args.columns.cols.now) c.args.columns.gaps.list.now
+      weak y
       → ((k : ℕ) → k < c.args.j → slice_index_or c.args.at.now k (pos 0) ≤ℤ (slice_index_or y k (pos 0) +ℤ pos d))
       → (w : ℤ) → (slice_index_or y c.args.j (pos 0) +ℤ pos d) ≤ℤ w
       → (slice_index_or c.args.at.now (c.args.j - 1) (pos 0) +ℤ pos c.length-spring.result) ≤ℤ w
@@ -95,8 +105,10 @@ module _ (g : _) (c : After-set_past-next g) where
       let below = near (c.args.j - 1) (omega arith) in
       let from = c.after.ensures.least w (omega (arith, ints, low, high)) (omega (arith, ints, low, high)) in
       c.set_past-next.ensures.least w (rw (to_z-of_z w64 c.after.result (record { sfits = c.after.type_inv })) from)
-      (subst (λ r. IsPast r c.args.gaps.now (length c.args.gaps.now) c.args.front.now w) col_is
-      (front_below _ c.args.gaps.now _ _ _ _ c.args.j c.args.at.now c.args.front.now c.requires.placed c.requires.fronts
+      (subst (λ r. IsPast r c.args.columns.gaps.list.now (length c.args.columns.gaps.list.now) c.args.front.now w)
+      col_is
+      (front_below _ c.args.columns.gaps.list.now _ _ _ _ c.args.j c.args.at.now c.args.front.now c.requires.placed
+      c.requires.fronts
       weak y d w h near up))
 
 pub set_past-next-requires-clause-near : goal.set_past-next-requires-clause-near
@@ -130,22 +142,25 @@ returns-clause-placed g c =
     let t = c.tightened.ensures in
     let z : c.args.j - 1 + 1 ≡ c.args.j = omega arith in
     rw (same g s)
-    (placed_more _ c.args.gaps.now _ c.args.force c.args.tight.natural c.args.tight.count c.tightened.result.natural
+    (placed_more _ c.args.columns.gaps.list.now _ c.args.force c.args.tight.natural c.args.tight.count
+    c.tightened.result.natural
     c.tightened.result.count
     c.args.at.now c.args.j (v g s) c.requires.past (omega arith) c.requires.placed
     (elim t [ inl h ↦ rw h.1 (omega arith) | inr h ↦ rw h.1 (omega arith) ])
     (elim t [ inl h ↦ rw h.2 (omega arith) | inr h ↦ rw h.2 (omega arith) ])
     (λ k q. let z : c.args.j - 1 ≡ k = omega arith in rw (← z) (past g s).0)
     (λ k q. let z : c.args.j - 1 ≡ k = omega arith in rw (← z, spring_is g s) (past g s).1)
-    (front_clear _ c.args.gaps.now _ _ _ _ c.args.j c.args.at.now c.args.front.now c.requires.placed c.requires.fronts
+    (front_clear _ c.args.columns.gaps.list.now _ _ _ _ c.args.j c.args.at.now c.args.front.now c.requires.placed
+    c.requires.fronts
     (v g s)
-    (subst (λ r. IsPast r c.args.gaps.now (length c.args.gaps.now) c.args.front.now (v g s)) (sym (col_is g s))
+    (subst (λ r. IsPast r c.args.columns.gaps.list.now (length c.args.columns.gaps.list.now) c.args.front.now (v g s))
+    (sym (col_is g s))
     c.set_past-next.ensures.clear))
     (λ y apart.
     let least = c.requires.placed.least y (first_apart g s _ y apart) in
     let last = least (c.args.j - 1) (omega arith) in
     let sprung = rw (z, spring_is g s) at (apart.springs (c.args.j - 1) (omega arith)) in
-    from_near g s (length_at g.C.Spring.length_of c.args.cols.now c.args.force) y 0 apart
+    from_near g s (length_at g.C.Spring.length_of c.args.columns.cols.now c.args.force) y 0 apart
     (λ k l. let below = least k l in omega (arith, ints, below)) (slice_index_or y c.args.j (pos 0))
     (omega (arith, ints)) (omega (arith, ints, last, sprung)))
     (λ linear weak drop y e apart.
@@ -160,20 +175,21 @@ returns-clause-placed g c =
     (rw (before_is g s, same g s, len) at t) (near (c.args.j - 1) (omega arith))
     (rw (z, spring_at g s linear weak) at (apart.springs (c.args.j - 1) (omega arith))) (rw len at (past g s).1)
     (λ w up spring.
-    from_near g s (length_at g.C.Spring.length_of c.args.cols.now weak) y
+    from_near g s (length_at g.C.Spring.length_of c.args.columns.cols.now weak) y
     (slack c.args.tight.natural c.args.tight.count drop) apart near w up (rw len spring)))
     (begins g s, bound g s))
 
 pub returns-clause-fronts : goal.returns-clause-fronts
 returns-clause-fronts g c =
     let s = (goal.at.returns-clause-fronts g c).After-set_past-next in
-    rw (same g s) (front_more (reach_at g.C.Spaced.reach_of c.args.cols.now) (length c.args.gaps.now) c.args.j (v g s)
+    rw (same g s) (front_more (reach_at g.C.Spaced.reach_of c.args.columns.cols.now)
+    (length c.args.columns.gaps.list.now) c.args.j (v g s)
     c.args.at.now (slice_set c.args.at.now c.args.j (v g s)) c.args.front.now c.set_past-next.new.front
     (λ k l. let ne : k ≢ c.args.j = omega arith in get_or-set_other c.args.at.now c.args.j k (v g s) (pos 0) ne)
     (get_or-set_same c.args.at.now c.args.j (v g s) (pos 0) (omega arith))
     (begins g s) (let top = bound g s in omega (arith, ints))
     (λ lane lt.
-    near_at g.C.Spaced.reach_of c.args.cols.now _ lane
-    (λ col. g.met.C.Spaced.is_near col lane (let l = c.requires.lanes in omega arith)) c.args.j)
+    near_at g.C.Spaced.reach_of c.args.columns.cols.now _ lane
+    (λ col. g.met.C.Spaced.is_near col lane (let l = c.args.columns.gaps.lanes in omega arith)) c.args.j)
     (λ lane lt. rw (ap (λ r. r lane) (col_is g s)) (c.set_past-next.ensures.noted lane (omega arith)))
     c.requires.fronts)

@@ -15,13 +15,14 @@ returns-clause-placed g c =
       tight = subst (λ j. (c.loop-j.tight.natural ≤ 1048576 * j) × (c.loop-j.tight.count ≤ j)) done i.tight;
       placed =
           subst (λ j.
-          IsPlacedTo j (reach_at g.C.Spaced.reach_of c.args.cols.now) c.args.gaps.now
-          (length_at g.C.Spring.length_of c.args.cols.now) c.args.force
+          IsPlacedTo j (reach_at g.C.Spaced.reach_of c.args.columns.cols.now) c.args.columns.gaps.list.now
+          (length_at g.C.Spring.length_of c.args.columns.cols.now) c.args.force
           c.loop-j.tight.natural c.loop-j.tight.count c.loop-j.at) done i.placed;
       front =
           λ some.
           subst (λ j.
-          AreFrontiers j (reach_at g.C.Spaced.reach_of c.args.cols.now) (length c.args.gaps.now) c.loop-j.at
+          AreFrontiers j (reach_at g.C.Spaced.reach_of c.args.columns.cols.now) (length c.args.columns.gaps.list.now)
+          c.loop-j.at
           c.loop-j.front)
           done i.front;
     }

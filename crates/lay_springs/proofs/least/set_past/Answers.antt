@@ -5,7 +5,7 @@ use Rattle.lay_springs.proofs.least.set_past.Goals.{After-from}
 use Rattle.lay_springs.proofs.least.set_past.Goals as goal
 
 inside : (g : _) (c : After-from g) → c.in-OneLane.stand.lane < 4294967296
-inside g c = omega (arith, c.if-lane-gaps.false, c.requires.lanes)
+inside g c = omega (arith, c.if-lane-gaps.false, c.args.gaps.lanes)
 
 lone : (g : _) (c : After-from g) → IsLone (g.C.Spaced.reach_of c.args.col.now) c.in-OneLane.stand
 lone g c =
@@ -15,7 +15,7 @@ lone g c =
 pub overflow_add-front : goal.overflow_add-front
 overflow_add-front g c =
     let high = c.requires.small c.in-OneLane.stand.lane c.if-lane-gaps.false in
-    let gap = c.requires.narrow c.in-OneLane.stand.lane c.if-lane-gaps.false in
+    let gap = c.args.gaps.narrow c.in-OneLane.stand.lane c.if-lane-gaps.false in
     let near = c.requires.near.le in
     let top =
     c.past_end-at.ensures.least (pos 4611686018427387904) (omega (arith, ints)) (λ some. omega (arith, ints)) in
@@ -26,8 +26,8 @@ returns-clause-clear g c =
     let s = (goal.at.returns-clause-clear g c).After-from in
     let high = c.requires.small c.in-OneLane.stand.lane c.if-lane-gaps.false in
     rw (to_z-of_z w64 c.past_end-at.result (record { sfits = c.past_end-at.type_inv }))
-    (lone_clear (g.C.Spaced.reach_of c.args.col.now) c.in-OneLane.stand c.args.gaps.now c.args.front.now
-    c.past_end-at.result (lone g s) c.requires.lanes
+    (lone_clear (g.C.Spaced.reach_of c.args.col.now) c.in-OneLane.stand c.args.gaps.list.now c.args.front.now
+    c.past_end-at.result (lone g s) c.args.gaps.lanes
     (λ some. let past = c.past_end-at.ensures.past (omega (arith, ints)) in omega (arith, ints)))
 
 pub returns-clause-noted : goal.returns-clause-noted
@@ -40,7 +40,7 @@ returns-clause-noted g c =
     let fits = rw (same, right) at (overflow_add-front g (goal.at.returns-clause-noted g c).After-from) in
     rw (same, right, to_z-of_z w64 (at +ℤ pos stand.reach.right) fits)
     (lone_noted (g.C.Spaced.reach_of c.args.col.now) stand c.args.front.now at
-    (lone g (goal.at.returns-clause-noted g c).After-from) (omega (arith, c.requires.room, c.requires.lanes))
+    (lone g (goal.at.returns-clause-noted g c).After-from) (omega (arith, c.requires.room, c.args.gaps.lanes))
     (omega (arith, c.requires.room, c.if-lane-gaps.false))
     (let begins = c.requires.begins.le in
     let following = c.past_end-at.ensures.following (omega (arith, ints)) in
@@ -48,12 +48,12 @@ returns-clause-noted g c =
 
 pub overflow_add-gaps : goal.overflow_add-gaps
 overflow_add-gaps g c =
-    let few : c.in-OneLane.stand.lane < 4294967296 = omega (arith, c.if-lane-gaps.false, c.requires.lanes) in
+    let few : c.in-OneLane.stand.lane < 4294967296 = omega (arith, c.if-lane-gaps.false, c.args.gaps.lanes) in
     let lone = lone_known c.in-OneLane.stand (g.C.Spaced.reach_of c.args.col.now)
     (subst (λ s. TellsReach s (g.C.Spaced.reach_of c.args.col.now)) c.in-OneLane.is c.stands.ensures) few in
     let near = rw lone.here at (g.met.C.Spaced.is_near c.args.col.now c.in-OneLane.stand.lane few) in
     let left = near.0 in
-    let gap = c.requires.narrow c.in-OneLane.stand.lane c.if-lane-gaps.false in
+    let gap = c.args.gaps.narrow c.in-OneLane.stand.lane c.if-lane-gaps.false in
     omega arith
 
 pub returns-clause-least : goal.returns-clause-least

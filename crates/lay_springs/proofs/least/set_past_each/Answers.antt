@@ -10,7 +10,7 @@ advance_each-requires-clause-small c =
     (c.past_each-at.ensures.least _ (let near = c.requires.near.le in omega (arith, ints))
     (λ lane s lt e some. let near = rw e at (reach_in_near c.args.row.now lane) in
     let left = near.0 in
-    let gap = c.requires.narrow lane lt in
+    let gap = c.args.gaps.narrow lane lt in
     let high = c.requires.small lane lt in
     omega (arith, ints)))
 
@@ -18,7 +18,7 @@ pub advance_each-requires-clause-following : goal.advance_each-requires-clause-f
 advance_each-requires-clause-following c =
     rw (to_z-of_z w64 c.past_each-at.result (record { sfits = c.past_each-at.type_inv }))
     (λ lane l.
-    each_after (reach_in c.args.row.now) c.args.gaps.now (length c.args.gaps.now) c.args.front.now
+    each_after (reach_in c.args.row.now) c.args.gaps.list.now (length c.args.gaps.list.now) c.args.front.now
     c.past_each-at.result
     (let begins = c.requires.begins.le in let kept = c.past_each-at.ensures.kept in omega (arith, ints))
     c.past_each-at.ensures.clear lane (let room = c.requires.room in omega arith))

@@ -8,21 +8,24 @@ use Rattle.lay_springs.proofs.margin.set.Goals.{After-place_all}
 use Rattle.lay_springs.proofs.margin.set.Goals as goal
 
 place : (g : _) (c : After-place_all g)
-    → IsPlace (length c.args.cols.now) (reach_at g.C.Spaced.reach_of c.args.cols.now) c.args.gaps.now
-    (length_at g.C.Spring.length_of c.args.cols.now c.args.force) c.place_all.new.at
+    → IsPlace (length c.args.columns.cols.now) (reach_at g.C.Spaced.reach_of c.args.columns.cols.now)
+    c.args.columns.gaps.list.now
+    (length_at g.C.Spring.length_of c.args.columns.cols.now c.args.force) c.place_all.new.at
 place g c =
     subst (λ at.
-    IsPlace (length c.args.cols.now) (reach_at g.C.Spaced.reach_of c.args.cols.now) c.args.gaps.now
-    (length_at g.C.Spring.length_of c.args.cols.now c.args.force) at)
-    (take_all (length c.args.cols.now) c.place_all.new.at
+    IsPlace (length c.args.columns.cols.now) (reach_at g.C.Spaced.reach_of c.args.columns.cols.now)
+    c.args.columns.gaps.list.now
+    (length_at g.C.Spring.length_of c.args.columns.cols.now c.args.force) at)
+    (take_all (length c.args.columns.cols.now) c.place_all.new.at
     (let same = c.place_all.auto.at in let room = c.requires.room in omega arith))
     c.place_all.ensures.place
 
 pub rest_of-rest-requires-clause-fits : goal.rest_of-rest-requires-clause-fits
 rest_of-rest-requires-clause-fits g c = λ e end.
     let f = c.requires.fits in
-    let d = end_down (length c.args.cols.now) (reach_at g.C.Spaced.reach_of c.args.cols.now) c.args.gaps.now
-    (length_at g.C.Spring.length_of c.args.cols.now) c.args.force c.args.force e f.0 c.requires.some
+    let d = end_down (length c.args.columns.cols.now) (reach_at g.C.Spaced.reach_of c.args.columns.cols.now)
+    c.args.columns.gaps.list.now
+    (length_at g.C.Spring.length_of c.args.columns.cols.now) c.args.force c.args.force e f.0 c.args.columns.some
     (λ i. omega arith)
     (record {
       x = c.place_all.new.at;
@@ -53,14 +56,16 @@ returns-clause-set g c =
 
 pub returns-then-cols-eq1-clause-apart : goal.returns-then-cols-eq1-clause-apart
 returns-then-cols-eq1-clause-apart g c =
-    set_apart (length c.args.cols.now) (reach_at g.C.Spaced.reach_of c.args.cols.now) c.args.gaps.now
-    (length_at g.C.Spring.length_of c.args.cols.now) c.args.width c.args.force _ c.requires.some
+    set_apart (length c.args.columns.cols.now) (reach_at g.C.Spaced.reach_of c.args.columns.cols.now)
+    c.args.columns.gaps.list.now
+    (length_at g.C.Spring.length_of c.args.columns.cols.now) c.args.width c.args.force _ c.args.columns.some
     (returns-then-cols-eq1-clause-set g c)
 
 pub returns-clause-apart : goal.returns-clause-apart
 returns-clause-apart g c =
-    set_apart (length c.args.cols.now) (reach_at g.C.Spaced.reach_of c.args.cols.now) c.args.gaps.now
-    (length_at g.C.Spring.length_of c.args.cols.now) c.args.width c.args.force _ c.requires.some
+    set_apart (length c.args.columns.cols.now) (reach_at g.C.Spaced.reach_of c.args.columns.cols.now)
+    c.args.columns.gaps.list.now
+    (length_at g.C.Spring.length_of c.args.columns.cols.now) c.args.width c.args.force _ c.args.columns.some
     (returns-clause-set g c)
 
 pub spread-requires-clause-small : goal.spread-requires-clause-small

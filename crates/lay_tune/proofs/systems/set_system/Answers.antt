@@ -12,26 +12,29 @@ use Rattle.lay_tune.proofs.Rows.{good_staves}
 use Rattle.lay_tune.proofs.Within.{abscissas_of, placed_ends, span_set}
 use Rattle.lay_tune.proofs.systems.set_system.Goals as goal
 
-pub press-requires-clause-fits : goal.press-requires-clause-fits
-press-requires-clause-fits c =
+pub press-requires : goal.press-requires
+press-requires c =
     let force : c.requires.fits.force ≡ c.in-Some.force =
     same_Some c.requires.fits.force c.in-Some.force
     (sym c.requires.fits.pressed_so ∙ (sym c.force.ensures ∙ c.in-Some.is)) in
-    subst (λ force.
-    HaveForce c.args.measured.now.gaps.now c.args.measured.now.width force
-    (map (λ s. s.column.now) c.as_slice-columns.result.now))
-    force
-    (span_set c.args.measured.now.starts.now c.args.measured.now.others.now
-    (map (λ s. s.column.now) c.as_slice-columns.result.now) c.requires.fits c.requires.measured.columns
-    c.requires.measured.gaps
-    (ap (map (λ s. s.column.now)) c.as_slice-columns.ensures ∙ c.in_ok-seen.ensures)).0
+    record {
+      fits =
+          subst (λ force.
+          HaveForce c.args.measured.now.measures.now.gaps.list.now c.args.measured.now.width force
+          (map (λ s. s.column.now) c.as_slice-columns.result.now))
+          force
+          (span_set c.args.measured.now.measures.now.starts.now c.args.measured.now.measures.now.others.now
+          (map (λ s. s.column.now) c.as_slice-columns.result.now) c.requires.fits c.requires.measured.columns
+          c.requires.measured.gaps
+          (ap (map (λ s. s.column.now)) c.as_slice-columns.ensures ∙ c.in_ok-seen.ensures)).0;
+    }
 
 pub tilt_of-requires-clause-keys : goal.tilt_of-requires-clause-keys
 tilt_of-requires-clause-keys c =
     let s = c.args.measured.now.score.now in
     subst (λ t. AreKeys c.in_ok-keys.keys (called_keys s t.lengths c.args.a c.args.b)) (sym c.requires.measured.times)
     (subst (λ keys. AreKeys keys (called_keys s (timeline_of s).lengths c.args.a c.args.b)) (sym c.in_ok-keys.ensures)
-    (span_set c.args.measured.now.starts.now c.args.measured.now.others.now
+    (span_set c.args.measured.now.measures.now.starts.now c.args.measured.now.measures.now.others.now
     (map (λ s. s.column.now) c.as_slice-columns.result.now) c.requires.fits c.requires.measured.columns
     c.requires.measured.gaps
     (ap (map (λ s. s.column.now)) c.as_slice-columns.ensures ∙ c.in_ok-seen.ensures)).2)
@@ -39,7 +42,7 @@ tilt_of-requires-clause-keys c =
 pub tilt_of-requires-clause-places : goal.tilt_of-requires-clause-places
 tilt_of-requires-clause-places c =
     let s = c.args.measured.now.score.now in
-    let placed = (span_set c.args.measured.now.starts.now c.args.measured.now.others.now
+    let placed = (span_set c.args.measured.now.measures.now.starts.now c.args.measured.now.measures.now.others.now
     (map (λ s. s.column.now) c.as_slice-columns.result.now) c.requires.fits c.requires.measured.columns
     c.requires.measured.gaps
     (ap (map (λ s. s.column.now)) c.as_slice-columns.ensures ∙ c.in_ok-seen.ensures)).1 c.in_ok-placed.placed
@@ -76,7 +79,7 @@ returns-clause-system c =
     let s = c.args.measured.now.score.now in let flat = has_system s c.args.a c.args.b in
     let tilted = c.in_ok-marks in
     let placed : IsPlaced s c.args.measured.now.width flat.0 c.in_ok-placed.placed =
-    (span_set c.args.measured.now.starts.now c.args.measured.now.others.now
+    (span_set c.args.measured.now.measures.now.starts.now c.args.measured.now.measures.now.others.now
     (map (λ s. s.column.now) c.as_slice-columns.result.now) c.requires.fits c.requires.measured.columns
     c.requires.measured.gaps
     (ap (map (λ s. s.column.now)) c.as_slice-columns.ensures ∙ c.in_ok-seen.ensures)).1 c.in_ok-placed.placed
