@@ -1,6 +1,5 @@
 -- Named distances and heights in u. Heights are counted from the bottom line of a staff.
 use Rattle.std.specs.Prelude.{ℕ}
-
 pub use Rattle.mus_units.specs.Distances.{stem_side, grace_stem_side, tie_gap}
 
 -- the greatest distance of a height from the bottom line

@@ -122,7 +122,14 @@ fn put_event(
 {
     let (event, plan) = (e.flat.event(), &e.plan);
     let raise = raise_of(e.seat);
-    put_note(pen, e.clef, raise, event, plan, StemEnd { to, before, after })?;
+    put_note(
+        pen,
+        e.clef,
+        raise,
+        event,
+        plan,
+        StemEnd { to, before, after },
+    )?;
     put_placed_words(pen, words, &e.flat)
 }
 

@@ -192,10 +192,10 @@ fn put_tie(
     put_piece(out, placed, from_dy, to_dy, tie_bulge(up))
 }
 
-/// Draws the piece of an arc in a system; `from` and `to` are the arc's first and last event. A slur ends 400 u above the tops of its events and bulges by 700 u. A tie ends 400 u beside
-/// its heads and bulges by 400 u, downwards if the stem of its first event goes up. An end that the system cuts is as
-/// high as the other end; if both are cut, both are at 2750 u. Each dy is clamped to ±2^30 u. The only error is out
-/// of memory.
+/// Draws the piece of an arc in a system; `from` and `to` are the arc's first and last event. A slur ends 400 u above
+/// the tops of its events and bulges by 700 u. A tie ends 400 u beside its heads and bulges by 400 u, downwards if the
+/// stem of its first event goes up. An end that the system cuts is as high as the other end; if both are cut, both are
+/// at 2750 u. Each dy is clamped to ±2^30 u. The only error is out of memory.
 ///
 /// A tie ends at the head of its number in its first event, and at the first head of that letter and octave in its
 /// last event; a missing head counts as one at 0.

@@ -1,7 +1,7 @@
 -- The columns of a staff of a system. The anchors of all staves of the system, from the left and each once, are the
 -- places of its columns. A column has the meanings of the glyphs at its anchor, in the staff's order, and the heights
--- of the heads at which a tie ends there: an arc that bulges as a tie does ends that far from its head. The first column
--- of a system leads it.
+-- of the heads at which a tie ends there: an arc that bulges as a tie does ends that far from its head. The first
+-- column of a system leads it.
 use Rattle.std.specs.Prelude.{ℤ, pos, ◌-ℤ◌, ◌||◌, ◌&&◌, int_lt, if◌then◌else◌, Bool, true, false, List, [], ◌∷◌}
 use Rattle.std.specs.Prelude.{flat_map}
 use Rattle.std.specs.Ordering.{int_eq}

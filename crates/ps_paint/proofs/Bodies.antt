@@ -29,7 +29,8 @@ rule_tokens up = whole_token (pos 0) ∷ whole_token up ∷ call (codes "m") ∷
 abbrev pub sf_body : List SimpleToken
 sf_body =
     op gsave_op ∷ op translate_op
-    ∷ (rule_tokens (pos 0) ++ rule_tokens (pos second_line) ++ rule_tokens (pos third_line) ++ rule_tokens (pos fourth_line)
+    ∷ (rule_tokens (pos 0) ++ rule_tokens (pos second_line) ++ rule_tokens (pos third_line)
+    ++ rule_tokens (pos fourth_line)
     ++ rule_tokens (pos top_line) ++ op stroke_op ∷ op grestore_op ∷ [])
 
 abbrev pub vl_body : List SimpleToken

@@ -42,7 +42,8 @@ module _ {f : Frame} {ds : Names} (made : Made f ds) where
   unfolding rules_line
   rules_drawn width y nw ny =
       let w = pos width in
-      let zs = w ∷ pos top_line ∷ w ∷ pos fourth_line ∷ w ∷ pos third_line ∷ w ∷ pos second_line ∷ w ∷ pos 0 ∷ pos 0 ∷ y ∷ [] in
+      let zs =
+      w ∷ pos top_line ∷ w ∷ pos fourth_line ∷ w ∷ pos third_line ∷ w ∷ pos second_line ∷ w ∷ pos 0 ∷ pos 0 ∷ y ∷ [] in
       let near : all_near zs ≡ true = rw (page_near w nw, page_near y ny) refl in
       let lowest : Comes y (pos 0) y = record { is = +ℤ_idr y; close = close_number y ny } in
       line_drawn zs (codes "sf") near (record { some = omega arith; regular = refl; token = refl }) made.sf

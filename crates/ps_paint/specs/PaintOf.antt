@@ -2,7 +2,15 @@
 -- and the words shown.
 use Rattle.std.specs.Prelude.{ℕ, ℤ, pos, ◌*◌, ◌+ℤ◌, ◌-ℤ◌, ◌*ℤ◌, List, [], ◌∷◌, ◌++◌, map}
 use Rattle.std.specs.List.{flat_map}
-use Rattle.mus_units.specs.Distances.{top_line, fourth_line, third_line, second_line, beam_thickness, stem_side, grace_stem_side}
+use Rattle.mus_units.specs.Distances.{
+  top_line,
+  fourth_line,
+  third_line,
+  second_line,
+  beam_thickness,
+  stem_side,
+  grace_stem_side,
+}
 use Rattle.mus_units.specs.declared.glyph.Size.{Size}
 use Rattle.mus_units.specs.declared.glyph.Way.{Way}
 use Rattle.glyph_paths.specs.declared.paths.PathOp.{PathOp}
@@ -79,7 +87,8 @@ edge Way.Grace = pos grace_stem_side
 -- a beam from (x1, a) to (x2, b)
 abbrev pub beam_paint : Frame → ℤ → ℤ → ℤ → ℤ → Paint
 beam_paint f x1 a x2 b =
-    filled_paint (move f x1 a ∷ line f x2 b ∷ line f x2 (b +ℤ pos beam_thickness) ∷ line f x1 (a +ℤ pos beam_thickness) ∷ [])
+    filled_paint
+    (move f x1 a ∷ line f x2 b ∷ line f x2 (b +ℤ pos beam_thickness) ∷ line f x1 (a +ℤ pos beam_thickness) ∷ [])
 
 -- an arc from (x1, a) to (x2, b); its inner points are a quarter of the way from its ends, its bulge above them
 abbrev pub arc_paint : Frame → ℤ → ℤ → ℤ → ℤ → ℤ → Paint
@@ -103,7 +112,8 @@ rule f width y = move f (pos 0) y ∷ line f width y ∷ []
 -- the five lines of a staff at y, from the lowest, in one stroke
 abbrev pub rules : Frame → ℤ → ℤ → List Seg
 rules f width y =
-    rule f width y ++ rule f width (y +ℤ pos second_line) ++ rule f width (y +ℤ pos third_line) ++ rule f width (y +ℤ pos fourth_line)
+    rule f width y ++ rule f width (y +ℤ pos second_line) ++ rule f width (y +ℤ pos third_line)
+    ++ rule f width (y +ℤ pos fourth_line)
     ++ rule f width (y +ℤ pos top_line)
 
 -- a staff: its lines, and its marks

@@ -238,7 +238,8 @@ numbers_of y (PageMark.Glyph glyph x dx dy) = dx ∷ dy ∷ x ∷ y ∷ []
 numbers_of y (PageMark.Words size x dx dy words) = []
 numbers_of y (PageMark.Stem x dx from to) = dx ∷ to ∷ dx ∷ from ∷ x ∷ y ∷ []
 numbers_of y (PageMark.Beam way x1 x2 from to) =
-    x1 ∷ ((y +ℤ from) +ℤ pos beam_thickness) ∷ x2 ∷ ((y +ℤ to) +ℤ pos beam_thickness) ∷ x2 ∷ (y +ℤ to) ∷ x1 ∷ (y +ℤ from) ∷ []
+    x1 ∷ ((y +ℤ from) +ℤ pos beam_thickness) ∷ x2 ∷ ((y +ℤ to) +ℤ pos beam_thickness) ∷ x2 ∷ (y +ℤ to) ∷ x1
+    ∷ (y +ℤ from) ∷ []
 numbers_of y (PageMark.Arc x1 x2 from to bulge) =
     (x1 +ℤ quarter x1 x2) ∷ ((y +ℤ from) +ℤ bulge) ∷ (x2 -ℤ quarter x1 x2) ∷ ((y +ℤ to) +ℤ bulge) ∷ x2 ∷ (y +ℤ to) ∷ x1
     ∷ (y +ℤ from) ∷ []

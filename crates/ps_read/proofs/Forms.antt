@@ -33,7 +33,8 @@ size_is_field Size.Big = refl
 
 abbrev pub rules_numbers : ℕ → ℤ → List ℤ
 rules_numbers w y =
-    pos w ∷ pos top_line ∷ pos w ∷ pos fourth_line ∷ pos w ∷ pos third_line ∷ pos w ∷ pos second_line ∷ pos w ∷ pos 0 ∷ pos 0 ∷ y ∷ []
+    pos w ∷ pos top_line ∷ pos w ∷ pos fourth_line ∷ pos w ∷ pos third_line ∷ pos w ∷ pos second_line ∷ pos w ∷ pos 0
+    ∷ pos 0 ∷ y ∷ []
 
 abbrev pub after_bottom : ℕ → List ℕ
 after_bottom s = percent s ++ (32 ∷ (percent s ++ page_end))

@@ -191,7 +191,8 @@ fn rules_of(zs: &[i64]) -> Option<Rules>
     ensures right { (w : ℕ) (y : ℤ)
         → 1 ≤ w → w ≤ 2 ^ 31
         → zs.now
-        ≡ pos w ∷ pos top_line ∷ pos w ∷ pos fourth_line ∷ pos w ∷ pos third_line ∷ pos w ∷ pos second_line ∷ pos w ∷ pos 0 ∷ pos 0 ∷ y ∷ []
+        ≡ pos w ∷ pos top_line ∷ pos w ∷ pos fourth_line ∷ pos w ∷ pos third_line ∷ pos w ∷ pos second_line ∷ pos w
+        ∷ pos 0 ∷ pos 0 ∷ y ∷ []
         → result ≡ Some (rules_of w y) }
     ensures range { IfSome result (λ r. (1 ≤ r.width) × (r.width ≤ 2 ^ 31)) }
 {

@@ -169,7 +169,8 @@ mark_numbers y (PageMark.Glyph glyph x dx dy) = dx ∷ dy ∷ x ∷ y ∷ []
 mark_numbers y (PageMark.Words size x dx dy words) = dx ∷ dy ∷ x ∷ y ∷ []
 mark_numbers y (PageMark.Stem x dx from to) = dx ∷ to ∷ dx ∷ from ∷ x ∷ y ∷ []
 mark_numbers y (PageMark.Beam way x1 x2 from to) =
-    x1 ∷ ((y +ℤ from) +ℤ pos beam_thickness) ∷ x2 ∷ ((y +ℤ to) +ℤ pos beam_thickness) ∷ x2 ∷ (y +ℤ to) ∷ x1 ∷ (y +ℤ from) ∷ []
+    x1 ∷ ((y +ℤ from) +ℤ pos beam_thickness) ∷ x2 ∷ ((y +ℤ to) +ℤ pos beam_thickness) ∷ x2 ∷ (y +ℤ to) ∷ x1
+    ∷ (y +ℤ from) ∷ []
 mark_numbers y (PageMark.Arc x1 x2 from to bulge) =
     (x1 +ℤ quarter x1 x2) ∷ ((y +ℤ from) +ℤ bulge) ∷ (x2 -ℤ quarter x1 x2) ∷ ((y +ℤ to) +ℤ bulge) ∷ x2 ∷ (y +ℤ to) ∷ x1
     ∷ (y +ℤ from) ∷ []
@@ -252,7 +253,8 @@ wordless_found y (PageMark.Glyph glyph x dx dy) w h = glyph_found y x dx dy glyp
 wordless_found y (PageMark.Words size x dx dy words) w h = absurd w
 wordless_found y (PageMark.Stem x dx from to) w h = stem_found y x dx from to h.start.across h.start.above h.end
 wordless_found y (PageMark.Beam way x1 x2 from to) w h =
-    beam_found way y x1 x2 from to x1 ((y +ℤ from) +ℤ pos beam_thickness) x2 ((y +ℤ to) +ℤ pos beam_thickness) h.left.offset h.right.offset
+    beam_found way y x1 x2 from to x1 ((y +ℤ from) +ℤ pos beam_thickness) x2 ((y +ℤ to) +ℤ pos beam_thickness)
+    h.left.offset h.right.offset
 wordless_found y (PageMark.Arc x1 x2 from to bulge) w h =
     arc_found y x1 x2 from to bulge (x1 +ℤ quarter x1 x2) (x2 -ℤ quarter x1 x2) ((y +ℤ to) +ℤ bulge) h.left.offset
     h.right.offset h.rises

@@ -32,7 +32,9 @@ marks_text y ms = flat_map (mark_text y) ms
 unfoldable pub rules_line : ℕ → ℤ → List ℕ
 rules_line width y =
     let w = pos width in
-    numbers (w ∷ pos top_line ∷ w ∷ pos fourth_line ∷ w ∷ pos third_line ∷ w ∷ pos second_line ∷ w ∷ pos 0 ∷ pos 0 ∷ y ∷ []) ++ codes "sf"
+    numbers (w ∷ pos top_line ∷ w ∷ pos fourth_line ∷ w ∷ pos third_line ∷ w ∷ pos second_line ∷ w ∷ pos 0 ∷ pos 0 ∷ y
+    ∷ [])
+    ++ codes "sf"
 
 unfoldable pub staff_line : ℕ → List ℕ
 staff_line k = codes "% staff " ++ decimal k

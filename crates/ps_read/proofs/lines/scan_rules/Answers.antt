@@ -15,7 +15,13 @@ returns-clause-right c w y some wide number e =
           n,
           (
             small_number fourth_line (lit≤ tt),
-            (n, (small_number third_line (lit≤ tt), (n, (small_number second_line (lit≤ tt), (n, (zero, (zero, (number, tt)))))))),
+            (
+              n,
+              (
+                small_number third_line (lit≤ tt),
+                (n, (small_number second_line (lit≤ tt), (n, (zero, (zero, (number, tt)))))),
+              ),
+            ),
           ),
         ),
       ),
