@@ -199,7 +199,14 @@ pub fn is_page_mark(y: i64, m: &PageMark) -> bool
             from,
             to,
             ..
-        } => is_span(y, *x1, *x2, i64::from(*from), i64::from(*to), BEAM_THICKNESS),
+        } => is_span(
+            y,
+            *x1,
+            *x2,
+            i64::from(*from),
+            i64::from(*to),
+            BEAM_THICKNESS,
+        ),
         PageMark::Arc {
             x1,
             x2,
