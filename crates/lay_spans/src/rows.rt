@@ -82,13 +82,13 @@ pub(crate) fn see<'a, C: Spaced + LinearSpring>(
 }
 
 /// Returns how many columns the searches from bar `a` are given at most: those of the measures up to
-/// the first with which they are too many to be within the width.
-fn room_from<C: Spaced>(measures: &Measures<'_, C>, width: u32, a: usize) -> usize {
+/// a forced bar, or to the first with which they are too many to be within the width.
+fn room_from<C: Spaced>(measures: &Measures<'_, C>, width: u32, marks: &[bool], a: usize) -> usize {
     let most = most_columns(width);
     let mut room: usize = 0;
     for m in a..measures.starts.len() {
         room = room.saturating_add(measure(measures, a, m).len());
-        if most < room {
+        if most < room || marks.get(m + 1) == Some(&true) {
             return room;
         }
     }
@@ -112,7 +112,7 @@ pub(crate) fn row_from<'a, C: Spaced + LinearSpring>(
         measures.now.starts.now measures.now.others.now
         (λ b. slice_index_or marks.now b false) a row) }
 {
-    let room = room_from(measures, width, a);
+    let room = room_from(measures, width, marks, a);
     let mut at = Vec::with_capacity(alloc, room)?;
     let mut ends = vec![in alloc; 0; measures.gaps.list.len()]?;
     let front = ends.as_mut_slice();
