@@ -1,6 +1,6 @@
 -- Verses are on rows of the body, and a row without a fault has at most eight.
 use Rattle.std.proofs.Common.{◌≡◌, ℕ, ◌+◌, ◌<◌, List, [], ◌∷◌, ◌++◌, Bool, true, false, refl, cond, reverse, sym, ap}
-use Rattle.std.proofs.Common.{◌∙◌, subst, arith, append_assoc, append-nil}
+use Rattle.std.proofs.Common.{◌∙◌, subst, arith, append_assoc, append-nil, length, suc}
 use Rattle.std.proofs.lemmas.List.{reverse-append}
 use Rattle.std.proofs.lemmas.List.Elements.{All-nil, All-cons, All-append}
 use Rattle.std.specs.Prelude.{Option, Some, None, ⊤, fold, map, max}
@@ -8,9 +8,11 @@ use Rattle.std.specs.List.{All, list_any, range_with_len}
 use Rattle.abc_steps.specs.declared.step.BodyItem.{BodyItem}
 use Rattle.abc_words.specs.declared.rows.RowState.{RowState}
 use Rattle.abc_words.specs.declared.verses.Verse.{Verse}
+use Rattle.abc_words.specs.declared.verses.Verses.{Verses}
 use Rattle.abc_words.specs.Rows.{row_after, music_row_at, row_count, is_line_of, last_row, place_at}
 use Rattle.abc_words.specs.Verses.{is_words_item, verse_if, verse_at, verses_from, verses_of_voice, number_on}
-use Rattle.abc_words.specs.Verses.{verse_count, faults_from, first_verse_fault, verse_fault}
+use Rattle.abc_words.specs.Verses.{most_on, rows_in, verse_count, faults_from, first_verse_fault, verse_fault}
+use Rattle.abc_words.specs.Words.{row_end, row_ends}
 
 abbrev IsWithin : ℕ → Verse → Type 0
 IsWithin n v = v.row < n
@@ -111,3 +113,33 @@ pub no_words_no_fault : (id unnamed : List ℕ) (items : List BodyItem)
     → list_any is_words_item items ≡ false → None ≡ verse_fault id unnamed items
 no_words_no_fault id unnamed items none =
     ap (λ vs. first_verse_fault (faults_from [] vs)) (sym (none_along id unnamed [] items none))
+
+-- ---- the rows of a body, from where they end
+ended : (items before : List BodyItem)
+    → music_row_at (reverse items ++ before) ≡ length (row_ends items) + music_row_at before
+ended [] before = let none : music_row_at before ≡ 0 + music_row_at before = omega arith in none
+ended (i ∷ items) before =
+    ap music_row_at (one_on i before items)
+    ∙ ended items (i ∷ before)
+    ∙ one i (row_ends items) (music_row_at before) where
+      one : (i : BodyItem) (ends : List ℕ) (row : ℕ) → length ends + row_after i row ≡ length (row_end i ++ ends) + row
+      one (BodyItem.Step s) ends row = refl
+      one (BodyItem.LineEnd true breaks line column) ends row = refl
+      one (BodyItem.LineEnd false breaks line column) ends row =
+          let more : length ends + (row + 1) ≡ suc (length ends) + row = omega arith in more
+      one (BodyItem.Voice def line column) ends row = refl
+      one (BodyItem.Words text line) ends row = refl
+
+pub rows_ended : (items : List BodyItem) → length (row_ends items) + 1 ≡ row_count items
+rows_ended items =
+    let none : length (row_ends items) + 0 ≡ length (row_ends items) = omega arith in
+    let rows : music_row_at (reverse items) ≡ length (row_ends items) =
+    ap music_row_at (sym (append-nil (reverse items))) ∙ (ended items [] ∙ none) in
+    ap (λ n. n + 1) (sym rows)
+
+pub counted : (id unnamed : List ℕ) (items : List BodyItem) (v : Verses) (n : ℕ)
+    → n ≡ most_on (rows_in v) v.list → v.list ≡ verses_of_voice id unnamed items → rows_in v ≡ row_count items
+    → n ≡ verse_count id unnamed items
+counted id unnamed items v n most are rows =
+    most
+    ∙ (ap (λ vs. most_on (rows_in v) vs) are ∙ ap (λ k. most_on k (verses_of_voice id unnamed items)) rows)

@@ -1,13 +1,14 @@
 -- The verses of a voice: the texts of its `w:` lines, each on the voice's last row so far; the number of verses of
 -- the voice; and which texts are too many.
 use Rattle.std.specs.Prelude.{ℕ, ◌==◌, nat_le, max, List, [], ◌∷◌, ◌++◌, Bool, true, false, if◌then◌else◌, map, fold}
-use Rattle.std.specs.Prelude.{count_by, Option, Some, None}
+use Rattle.std.specs.Prelude.{◌+◌, length, count_by, Option, Some, None}
 use Rattle.std.specs.List.{range_with_len}
 use Rattle.abc_lines.specs.declared.fault.Fault.{Fault}
 use Rattle.abc_lines.specs.declared.fault.FaultKind.{FaultKind}
 use Rattle.abc_steps.specs.declared.step.BodyItem.{BodyItem}
 use Rattle.abc_words.specs.declared.rows.RowState.{RowState}
 use Rattle.abc_words.specs.declared.verses.Verse.{Verse}
+use Rattle.abc_words.specs.declared.verses.Verses.{Verses}
 use Rattle.abc_words.specs.Rows.{place_at, row_count}
 
 -- Words belong to the current voice, on its last row; they are skipped if it has none.
@@ -42,6 +43,10 @@ most_on rows verses = fold max 0 (map (λ row. number_on row verses) (range_with
 
 abbrev pub verse_count : List ℕ → List ℕ → List BodyItem → ℕ
 verse_count id unnamed items = most_on (row_count items) (verses_of_voice id unnamed items)
+
+-- the number of rows of a body, including the one at its end
+abbrev pub rows_in : Verses → ℕ
+rows_in v = length v.ends + 1
 
 -- a verse with eight or more before it on its row is too many
 abbrev pub too_many : ℕ → Fault

@@ -9,10 +9,11 @@ use Rattle.mus_lyric.specs.Syllables.{syllables_of}
 use Rattle.mus_lyric.specs.Singing.{sung_on}
 use Rattle.abc_steps.specs.declared.step.BodyItem.{BodyItem}
 use Rattle.abc_words.specs.declared.verses.Verse.{Verse}
+use Rattle.abc_words.specs.declared.verses.Verses.{Verses}
 use Rattle.abc_words.specs.declared.music.SungNote.{SungNote}
 use Rattle.abc_words.specs.declared.music.MusicRow.{MusicRow}
 use Rattle.abc_words.specs.Rows.{row_count}
-use Rattle.abc_words.specs.Verses.{verses_of_voice, verse_count}
+use Rattle.abc_words.specs.Verses.{rows_in, verses_of_voice, verse_count}
 
 -- the physical lines at which rows end
 abbrev pub end_if : Bool → ℕ → List ℕ
@@ -45,6 +46,10 @@ music_row verses ends notes row = record { texts = texts_on row verses; notes = 
 abbrev pub music_rows : List ℕ → List ℕ → List BodyItem → List SungNote → List MusicRow
 music_rows id unnamed items notes =
     map (music_row (verses_of_voice id unnamed items) (row_ends items) notes) (range_with_len 0 (row_count items))
+
+-- the same from the verses of the voice
+abbrev pub rows_with : Verses → List SungNote → List MusicRow
+rows_with v notes = map (music_row v.list v.ends notes) (range_with_len 0 (rows_in v))
 
 -- what is sung in a verse on a row: nothing if the row has no text for it
 abbrev pub sung_with : List NoteAt → Option (List ℕ) → List Sung

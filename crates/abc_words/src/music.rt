@@ -1,12 +1,10 @@
 ghost use Rattle.std.specs.Prelude.{◌≡◌, ◌≤◌, ◌<◌, ◌++◌, ◌∷◌, ℕ, [], length, map, slice_index_or, ◌==◌, if◌then◌else◌};
 ghost use Rattle.std.specs.Prelude.{IfOk, OnOk};
 ghost use Rattle.std.specs.List.{range_with_len};
-ghost use Rattle.abc_words.specs.Rows.{row_count};
-ghost use Rattle.abc_words.specs.Words.{music_row, music_rows, no_music, sung_note_at, notes_on, row_end, row_ends};
+ghost use Rattle.abc_words.specs.Words.{no_music, sung_note_at, notes_on, rows_with};
 ghost use Rattle.abc_words.specs.Words.{row_of, texts_on, with_notes, row_with_texts};
 
-use crate::verses::{Verse, verses_of_voice};
-use abc_steps::BodyItem;
+use crate::verses::{Verse, Verses};
 use mus_lyric::NoteAt;
 use mus_units::{Memory, Row, Text};
 use std::alloc::Global;
@@ -25,31 +23,6 @@ pub struct SungNote {
 pub struct MusicRow {
     pub texts: Row<Text>,
     pub notes: Row<NoteAt>,
-}
-
-/// Adds the line at which an item ends a row.
-fn put_row_end(ends: &mut Row<u32>, item: &BodyItem) -> Result<(), Memory>
-    ensures { OnOk result (ends.new ≡ ends.old ++ row_end item.now) }
-{
-    match item {
-        BodyItem::LineEnd {
-            joined: false,
-            line,
-            ..
-        } => ends.push(*line),
-        _ => Ok(()),
-    }
-}
-
-/// Returns the physical lines at which rows end.
-fn row_ends(alloc: Global, items: &[BodyItem]) -> Result<Row<u32>, Memory>
-    ensures { IfOk result (λ ends. ends ≡ row_ends items.now) }
-{
-    let mut ends = Row::new(alloc);
-    for item in items {
-        put_row_end(&mut ends, item)?;
-    }
-    Ok(ends)
 }
 
 /// Returns how many of some rows end before a line.
@@ -164,20 +137,16 @@ fn sung_note_at(note: &SungNote) -> NoteAt
     }
 }
 
-/// Returns the content of each row of a voice.
+/// Returns the content of each row of a voice with these verses and notes.
 pub(crate) fn music_rows(
     alloc: Global,
-    id: &[u8],
-    unnamed: &[u8],
-    items: &[BodyItem],
+    verses: Verses,
     notes: &[SungNote],
 ) -> Result<Vec<MusicRow>, Memory>
-    ensures { IfOk result (λ v. v.items ≡ music_rows id.now unnamed.now items.now notes.now) }
+    ensures { IfOk result (λ v. v.items ≡ rows_with verses notes.now) }
 {
-    let found = verses_of_voice(alloc, id, unnamed, items)?;
-    let ends = row_ends(alloc, items)?;
-    let mut rows = empty_rows(alloc, found.rows)?;
-    put_texts(&mut rows, found.verses)?;
-    put_notes(&mut rows, ends.as_slice(), notes)?;
+    let mut rows = empty_rows(alloc, verses.rows())?;
+    put_texts(&mut rows, verses.list)?;
+    put_notes(&mut rows, verses.ends.as_slice(), notes)?;
     Ok(rows)
 }

@@ -3,7 +3,8 @@ ghost use Rattle.std.specs.Prelude.{slice_index, ◌==◌, map, None, IfOk, OnOk
 ghost use Rattle.std.specs.List.{list_any, range_with_len};
 ghost use Rattle.abc_words.specs.Rows.{row_count};
 ghost use Rattle.abc_words.specs.Verses.{faults_from, first_verse_fault, is_words_item, number_on, too_many, verse_at};
-ghost use Rattle.abc_words.specs.Verses.{verse_count, verse_fault, verses_of_voice};
+ghost use Rattle.abc_words.specs.Verses.{most_on, rows_in, verse_count, verse_fault, verses_of_voice};
+ghost use Rattle.abc_words.specs.Words.{row_end, row_ends};
 
 use crate::rows::{RowState, first_place, state_after};
 use abc_lines::{Fault, FaultKind};
@@ -20,11 +21,34 @@ pub struct Verse {
     pub text: Text,
 }
 
-/// The verses of a voice, and the number of rows of the body.
+/// The verses of a voice in the order of the text, and the physical lines at which the rows of the body end.
 #[derive(Drop)]
 pub struct Verses {
-    pub rows: usize,
-    pub verses: Row<Verse>,
+    pub ends: Row<u32>,
+    pub list: Row<Verse>,
+}
+
+impl Verses {
+    /// Returns the number of rows, including the one at the end of the body.
+    pub(crate) fn rows(&self) -> usize
+        ensures { result ≡ rows_in self.now }
+    {
+        self.ends.as_slice().len() + 1
+    }
+}
+
+/// Adds the line at which an item ends a row.
+fn put_row_end(ends: &mut Row<u32>, item: &BodyItem) -> Result<(), Memory>
+    ensures { OnOk result (ends.new ≡ ends.old ++ row_end item.now) }
+{
+    match item {
+        BodyItem::LineEnd {
+            joined: false,
+            line,
+            ..
+        } => ends.push(*line),
+        _ => Ok(()),
+    }
 }
 
 /// Adds the verse of an item, if it is words of the voice and the voice has a row.
@@ -59,27 +83,27 @@ fn has_words(items: &[BodyItem]) -> bool
     items.iter().any(|item| is_words_item(item))
 }
 
-/// Returns the verses of a voice, in the order of the text.
+/// Returns the verses of a voice, and where the rows of the body end.
 pub(crate) fn verses_of_voice(
     alloc: Global,
     id: &[u8],
     unnamed: &[u8],
     items: &[BodyItem],
 ) -> Result<Verses, Memory>
-    ensures verses { IfOk result (λ v. v.verses ≡ verses_of_voice id.now unnamed.now items.now) }
-    ensures rows { IfOk result (λ v. v.rows ≡ row_count items.now) }
-    ensures within { IfOk result (λ v. All (λ verse. verse.row < v.rows) v.verses) }
+    ensures list { IfOk result (λ v. v.list ≡ verses_of_voice id.now unnamed.now items.now) }
+    ensures ends { IfOk result (λ v. v.ends ≡ row_ends items.now) }
+    ensures rows { IfOk result (λ v. rows_in v ≡ row_count items.now) }
+    ensures within { IfOk result (λ v. All (λ verse. verse.row < rows_in v) v.list) }
 {
-    let mut verses = Row::new(alloc);
+    let mut ends = Row::new(alloc);
+    let mut list = Row::new(alloc);
     let mut place = first_place(id, unnamed);
     for item in items {
-        put_verse(alloc, &mut verses, place, item)?;
+        put_row_end(&mut ends, item)?;
+        put_verse(alloc, &mut list, place, item)?;
         place = state_after(id, place, item);
     }
-    Ok(Verses {
-        rows: place.row + 1,
-        verses,
-    })
+    Ok(Verses { ends, list })
 }
 
 /// Counts a verse on its row.
@@ -115,6 +139,14 @@ fn greatest(counts: &[usize]) -> usize
     most
 }
 
+/// Returns the greatest number of verses on one row.
+pub(crate) fn most_on(alloc: Global, verses: &Verses) -> Result<usize, Memory>
+    ensures { IfOk result (λ n. n ≡ most_on (rows_in verses.now) verses.now.list) }
+{
+    let counts = counts_of(alloc, verses.list.as_slice(), verses.rows())?;
+    Ok(greatest(counts.as_slice()))
+}
+
 /// Returns the number of verses of a voice: the greatest number of `w:` lines on one of its rows of music. `unnamed`
 /// is the voice of the music before any voice field. There are at most eight verses if `verse_fault` finds no fault.
 #[tactic(auto, using(crate::proofs::VerseLaws::no_words_no_count))]
@@ -131,8 +163,8 @@ pub fn verse_count(
         return Ok(0);
     }
     let found = verses_of_voice(alloc, id, unnamed, items)?;
-    let counts = counts_of(alloc, found.verses.as_slice(), found.rows)?;
-    Ok(greatest(counts.as_slice()))
+    let most = most_on(alloc, &found)?;
+    Ok(most)
 }
 
 /// Returns the number of verses on a row so far.
@@ -182,5 +214,5 @@ pub fn verse_fault(
         return Ok(None);
     }
     let found = verses_of_voice(alloc, id, unnamed, items)?;
-    first_fault(alloc, found.verses.as_slice(), found.rows)
+    first_fault(alloc, found.list.as_slice(), found.rows())
 }

@@ -3,11 +3,11 @@ ghost use Rattle.std.specs.Prelude.{slice_index_or, IfOk, OnOk};
 ghost use Rattle.std.specs.List.{range_with_len};
 ghost use Rattle.std.specs.Option.{option_copied, option_flatten, option_or};
 ghost use Rattle.abc_words.specs.Verses.{verse_count};
-ghost use Rattle.abc_words.specs.Words.{HasNoOtherWords, HaveOwnWords, event_words, sung_in, music_rows, verse_sung};
+ghost use Rattle.abc_words.specs.Words.{HasNoOtherWords, HaveOwnWords, event_words, rows_with, sung_in, verse_sung};
 ghost use Rattle.abc_words.specs.Words.{word_of, words_of_events};
 
 use crate::music::{MusicRow, SungNote, music_rows};
-use crate::verses::verse_count;
+use crate::verses::{Verses, most_on, verses_of_voice};
 use abc_steps::BodyItem;
 use mus_lyric::{Sung, align, syllables};
 use mus_units::{Memory, Row, Text};
@@ -91,23 +91,20 @@ fn all_words(
 /// Returns the words of all verses of a voice, verse by verse. If it has none, its rows are not built.
 fn voice_words(
     alloc: Global,
-    id: &[u8],
-    unnamed: &[u8],
-    items: &[BodyItem],
+    found: Verses,
     notes: &[SungNote],
     verses: usize,
     count: usize,
 ) -> Result<Row<Row<Option<Text>>>, Memory>
     ensures { IfOk result (λ all.
         all
-        ≡ map (λ verse.
-        map (word_of (verse_sung (music_rows id.now unnamed.now items.now notes.now) verse)) (range_with_len 0 count))
+        ≡ map (λ verse. map (word_of (verse_sung (rows_with found notes.now) verse)) (range_with_len 0 count))
         (range_with_len 0 verses)) }
 {
     if verses == 0 {
         return Ok(Row::new(alloc));
     }
-    let rows = music_rows(alloc, id, unnamed, items, notes)?;
+    let rows = music_rows(alloc, found, notes)?;
     all_words(alloc, rows.as_slice(), verses, count)
 }
 
@@ -152,8 +149,9 @@ pub fn words_of_events(
     ensures others { IfOk result (HasNoOtherWords id.now unnamed.now items.now notes.now count) }
     ensures verses { IfOk result (λ words. All (λ row. length row ≡ verse_count id.now unnamed.now items.now) words) }
 {
-    let verses = verse_count(alloc, id, unnamed, items)?;
-    let all = voice_words(alloc, id, unnamed, items, notes, verses, count)?;
+    let found = verses_of_voice(alloc, id, unnamed, items)?;
+    let verses = most_on(alloc, &found)?;
+    let all = voice_words(alloc, found, notes, verses, count)?;
     let mut words = Row::new(alloc);
     for event in 0..count {
         words.push(words_at(alloc, all.as_slice(), event)?)?;

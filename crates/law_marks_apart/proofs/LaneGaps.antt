@@ -6,6 +6,7 @@ use Rattle.std.proofs.lemmas.List.{length-replicate}
 use Rattle.std.proofs.lemmas.Option.{none-some, same_Some}
 use Rattle.std.specs.List.{slice_get, slice_index}
 use Rattle.mus_laid.specs.declared.laid.Lane.{Lane}
+use Rattle.lay_reaches.specs.Distances.{other_gap}
 use Rattle.lay_reaches.specs.Lanes.{gaps_of, lane_count, lane_number, lane_start, staff_gaps}
 use Rattle.law_marks_apart.specs.Apart.{gap_of, Keeps}
 use Rattle.mus_laid.specs.declared.laid.Lane.TheVariants as lanes
@@ -16,7 +17,7 @@ HasLane verses (Lane.Verse n) = n < verses
 HasLane verses _ = Unit {0}
 
 gaps_long : (verses : ℕ) → length (staff_gaps verses) ≡ lane_count verses
-gaps_long verses = let e = length-replicate {A = ℕ} (2 + verses) 300 in omega (arith, e)
+gaps_long verses = let e = length-replicate {A = ℕ} (2 + verses) other_gap in omega (arith, e)
 
 -- a lane of a staff, among those of the system
 pub record IsPlaceOf (verses : List ℕ) (s count lane : ℕ) : Type 0 where
@@ -63,8 +64,8 @@ pub record IsNumber (count : ℕ) (lane : Lane) (number : ℕ) : Type 0 where
   pub low : number < lane_count count
   pub gap : slice_index (staff_gaps count) number ≡ gap_of lane
 
-gap_after : (count k : ℕ) → k < 2 + count → slice_index (staff_gaps count) (suc k) ≡ 300
-gap_after count k l = get_or-replicate (2 + count) k 300 0 l
+gap_after : (count k : ℕ) → k < 2 + count → slice_index (staff_gaps count) (suc k) ≡ other_gap
+gap_after count k l = get_or-replicate (2 + count) k other_gap 0 l
 
 pub number_of : (count : ℕ) (lane : Lane) → Keeps lane → HasLane count lane → (number : ℕ) × IsNumber count lane number
 number_of count Lane.Main keeps has = (0, record { is = refl; low = omega arith; gap = refl })
@@ -78,7 +79,9 @@ number_of count (Lane.Verse n) keeps inside =
       record {
         is = refl;
         low = omega (arith, inside);
-        gap = subst (λ k. slice_index (staff_gaps count) k ≡ 300) e (gap_after count (2 + n) (omega (arith, inside)));
+        gap =
+            subst (λ k. slice_index (staff_gaps count) k ≡ other_gap) e
+            (gap_after count (2 + n) (omega (arith, inside)));
       },
     )
 number_of count Lane.Loose keeps has = absurd keeps

@@ -12,7 +12,7 @@ use Rattle.mus_laid.specs.declared.laid.StaffMarks.{StaffMarks}
 use Rattle.mus_laid.specs.declared.laid.SystemMarks.{SystemMarks}
 use Rattle.mus_marks.specs.Staff.{staff_marks, verses_on}
 use Rattle.mus_marks.specs.System.{drawn_staves}
-use Rattle.lay_springs.{specs.{Fit.StandsInAll, Place.reach_at}, proofs.Placing.reach_is}
+use Rattle.lay_springs.{specs.{Fit.StandsInAll, Place.reach_at}, proofs.Extending.reach_is}
 use Rattle.lay_reaches.specs.declared.column.Column.{Column}
 use Rattle.lay_reaches.specs.Columns.{StandsWhereDue, column_reach, columns_of}
 use Rattle.lay_reaches.specs.Lanes.{gaps_of}

@@ -5,13 +5,14 @@ use Rattle.mus_laid.specs.Boxes.{sides_of}
 use Rattle.mus_laid.specs.declared.boxes.Sides.{Sides}
 use Rattle.mus_laid.specs.declared.laid.Laid.{Laid}
 use Rattle.mus_laid.specs.declared.laid.Lane.{Lane}
+use Rattle.lay_reaches.specs.Distances.{main_gap, other_gap}
 use Rattle.lay_reaches.specs.Reaches.{rank_of_mark}
 use Rattle.lay_tune.specs.Systems.{x_at}
 
--- 100 in the main lane, 300 in each other
+-- the gap that marks keep in a lane
 abbrev pub gap_of : Lane → ℕ
-gap_of Lane.Main = 100
-gap_of _ = 300
+gap_of Lane.Main = main_gap
+gap_of _ = other_gap
 
 -- a lane keeps its marks apart
 abbrev pub Keeps : Lane → Type 0

@@ -11,7 +11,7 @@ use Rattle.lay_rows.specs.Tables.{IsForceTable}
 use Rattle.lay_springs.specs.Place.{length_at, reach_at}
 use Rattle.lay_springs.specs.ReachView.{reach_in_near}
 use Rattle.lay_springs.proofs.Ends.{lengths_short}
-use Rattle.lay_springs.proofs.Placing.{near_at}
+use Rattle.lay_springs.proofs.Extending.{near_at}
 use Rattle.lay_reaches.specs.declared.column.Column.{Column}
 use Rattle.lay_reaches.specs.Column.{length_short}
 use Rattle.lay_reaches.specs.Columns.{column_reach}

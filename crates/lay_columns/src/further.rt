@@ -1,8 +1,4 @@
-ghost use Rattle.std.specs.{Prelude.{◌≡◌, ◌<◌, true, All, IfOk, length, map}, List.list_all};
-ghost use Rattle.mus_score.specs.GoodScore.{IsGoodScore};
-ghost use Rattle.mus_onsets.specs.Onsets.{timeline_of};
-ghost use Rattle.mus_drawn.specs.Drawn.{drawn_voice};
-ghost use Rattle.mus_drawn.specs.Good.{AreGoodMeasures};
+ghost use Rattle.std.specs.{Prelude.{◌≡◌, ◌<◌, true, IfOk, length}, List.list_all};
 ghost use Rattle.mus_marks.specs.System.{drawn_staves};
 ghost use Rattle.lay_columns.specs.Measures.{AreFurther, begins_plain, first_plain, further_of};
 
@@ -10,8 +6,7 @@ use crate::measures::measure_columns;
 use lay_reaches::Column;
 use mus_drawn::{DrawnEvent, DrawnVoice};
 use mus_marks::changes_nothing;
-use mus_onsets::Timeline;
-use mus_score::Score;
+use mus_time::DrawnScore;
 use mus_units::{Memory, Row};
 use std::alloc::Global;
 
@@ -41,29 +36,23 @@ fn begin_plain(m: u32, voices: &[DrawnVoice<'_>]) -> bool
     voices.iter().all(|v| begins_plain(m, v))
 }
 
-/// Returns the columns of measure `m` in a system that begins with the measure before it, as
-/// `measure_columns` does. `None` if they are those of a system that begins with `m` itself,
-/// without its head.
+/// Returns the columns of measure `m` of a drawn score in a system that begins with the measure
+/// before it, as `measure_columns` does. `None` if they are those of a system that begins with `m`
+/// itself, without its head.
 pub fn further_columns(
     alloc: Global,
-    s: &Score,
-    voices: &[DrawnVoice<'_>],
-    t: &Timeline,
+    drawn: &DrawnScore<'_>,
     m: u32,
     verses: &[u8],
 ) -> Result<Option<Row<Column>>, Memory>
-    requires good { IsGoodScore s.now }
-    requires times { t.now ≡ timeline_of s.now }
-    requires within { m < s.now.measures }
-    requires voices { voices.now ≡ map drawn_voice s.now.voices }
-    requires drawn { All (λ v. AreGoodMeasures v.measures) voices.now }
-    requires counts { length verses.now ≡ length (drawn_staves s.now) }
-    ensures { IfOk result (AreFurther s.now t.now m verses.now) }
+    requires within { m < drawn.now.score.now.measures }
+    requires counts { length verses.now ≡ length (drawn_staves drawn.now.score.now) }
+    ensures { IfOk result (AreFurther drawn.now.score.now drawn.now.times.now m verses.now) }
 {
-    if m == 0 || begin_plain(m, voices) {
+    if m == 0 || begin_plain(m, drawn.voices) {
         return Ok(None);
     }
-    Ok(Some(measure_columns(alloc, s, voices, t, m - 1, m, verses)?))
+    Ok(Some(measure_columns(alloc, drawn, m - 1, m, verses)?))
 }
 
 /// Returns the columns of measure `m` in a system that begins with the measure before it, if there

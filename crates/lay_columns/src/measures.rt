@@ -1,9 +1,6 @@
 ghost use Rattle.std.specs.Prelude.{◌≡◌, ◌≤◌, ◌<◌, ◌+◌, ◌++◌, ◌==◌, All, IfOk, length, map};
-ghost use Rattle.mus_score.specs.GoodScore.{IsGoodScore};
 ghost use Rattle.mus_score.specs.Seats.{grouped};
 ghost use Rattle.mus_onsets.specs.Keys.{IsInSystem};
-ghost use Rattle.mus_onsets.specs.Onsets.{timeline_of};
-ghost use Rattle.mus_drawn.specs.Drawn.{drawn_voice};
 ghost use Rattle.mus_drawn.specs.Good.{AreGoodMeasures};
 ghost use Rattle.mus_marks.specs.Staff.{verses_on};
 ghost use Rattle.mus_marks.specs.System.{drawn_staves, is_drawn_lower};
@@ -16,9 +13,7 @@ use lay_reaches::{Column, columns_in};
 use mus_drawn::DrawnVoice;
 use mus_laid::{Laid, MarkPen, StaffMarks, TOP_LINE};
 use mus_marks::{WordsAt, lower_count, put_own_voice};
-use mus_onsets::Timeline;
-use mus_score::Score;
-use mus_time::{SystemFrame, measure_keys};
+use mus_time::{DrawnScore, SystemFrame, measure_keys};
 use mus_units::{Memory, Row};
 use mus_words::TextPlace;
 use std::alloc::Global;
@@ -96,43 +91,37 @@ fn range_staves(
     Ok(staves)
 }
 
-/// Returns the columns of measure `m` in a system that begins with measure `a`, from left to right.
-/// If `a` is `m`, they are the head, the bar before the first measure if it has features, and the
-/// measure's own columns. Otherwise they are the measure's own columns alone, and the change before
-/// the first event has a column too. `t` is the timeline of the score, `voices` its voices as
-/// `draw_voices` returns them, and `verses` has the number of verses of each staff. Columns are as
-/// those of `lay_reaches::columns`; the last is the measure's bar.
+/// Returns the columns of measure `m` of a drawn score in a system that begins with measure `a`,
+/// from left to right. If `a` is `m`, they are the head, the bar before the first measure if it has
+/// features, and the measure's own columns. Otherwise they are the measure's own columns alone, and
+/// the change before the first event has a column too. `verses` has the number of verses of each
+/// staff. Columns are as those of `lay_reaches::columns`; the last is the measure's bar.
 pub fn measure_columns(
     alloc: Global,
-    s: &Score,
-    voices: &[DrawnVoice<'_>],
-    t: &Timeline,
+    drawn: &DrawnScore<'_>,
     a: u32,
     m: u32,
     verses: &[u8],
 ) -> Result<Row<Column>, Memory>
-    requires good { IsGoodScore s.now }
-    requires times { t.now ≡ timeline_of s.now }
     requires order { a ≤ m }
-    requires within { m < s.now.measures }
-    requires voices { voices.now ≡ map drawn_voice s.now.voices }
-    requires drawn { All (λ v. AreGoodMeasures v.measures) voices.now }
-    requires counts { length verses.now ≡ length (drawn_staves s.now) }
-    ensures columns { IfOk result (AreMeasureColumns (a == m) s.now t.now m verses.now) }
-    ensures places { IfOk result (All (λ c. IsInSystem t.now.lengths m (m + 1) c.key)) }
-    ensures bar { IfOk result (λ r. 1 ≤ length s.now.voices → EndWithBar r) }
+    requires within { m < drawn.now.score.now.measures }
+    requires counts { length verses.now ≡ length (drawn_staves drawn.now.score.now) }
+    ensures columns { IfOk result
+        (AreMeasureColumns (a == m) drawn.now.score.now drawn.now.times.now m verses.now) }
+    ensures places { IfOk result (All (λ c. IsInSystem drawn.now.times.now.lengths m (m + 1) c.key)) }
+    ensures bar { IfOk result (λ r. 1 ≤ length drawn.now.score.now.voices → EndWithBar r) }
     ensures lanes { IfOk result (λ r. All (λ c. length c.reaches ≡ length (gaps_of verses.now)) r) }
     ensures stands { IfOk result (All (StandsWhereDue verses.now)) }
     ensures small { IfOk result (All IsSmall) }
     ensures uncut { IfOk result (All IsUncut) }
 {
-    let keys = measure_keys(alloc, s, voices, t, m, a == m)?;
+    let keys = measure_keys(alloc, drawn, m, a == m)?;
     let frame = SystemFrame {
         keys: keys.as_slice(),
-        lengths: t.lengths.as_slice(),
+        lengths: drawn.times.lengths.as_slice(),
         a: m,
         b: m + 1,
     };
-    let staves = range_staves(alloc, &frame, a == m, voices)?;
+    let staves = range_staves(alloc, &frame, a == m, drawn.voices)?;
     columns_in(alloc, frame.keys, staves.as_slice(), frame.lengths, verses)
 }

@@ -1,5 +1,19 @@
 -- The distances of pages, in u.
-use Rattle.std.specs.Prelude.{ℕ}
+use Rattle.std.specs.Prelude.{ℕ, ◌^◌}
+
+-- the greatest height of a block, and of a page that is filled evenly
+abbrev pub tallest_block : ℕ
+tallest_block = 2 ^ 40
+
+abbrev pub tallest_page : ℕ
+tallest_page = 2 ^ 26
+
+-- what a page leaves free counts by this, and the tallest page leaves at most this many free
+abbrev pub free_step : ℕ
+free_step = 100
+
+abbrev pub most_free : ℕ
+most_free = 671089
 
 -- between two blocks of a page
 abbrev pub block_gap : ℕ

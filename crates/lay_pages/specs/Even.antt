@@ -7,7 +7,7 @@ use Rattle.std.specs.List.{filter}
 use Rattle.std.proofs.Common.{arith, ap}
 use Rattle.std.proofs.lemmas.Bool.Decides.{nat_tests}
 use Rattle.lay_breaks.specs.Breaking.{IsChosen}
-use Rattle.lay_pages.specs.Distances.{block_gap}
+use Rattle.lay_pages.specs.Distances.{block_gap, free_step, most_free, tallest_page}
 use Rattle.lay_pages.specs.declared.filling.Block.{Block}
 use Rattle.lay_pages.specs.declared.filling.Spot.{Spot}
 use Rattle.lay_pages.specs.Filling.{BeginOn, group_height, height_number, spots_of, top_under}
@@ -32,15 +32,15 @@ page_height heights = stacked heights - block_gap
 abbrev pub span_height : List ℤ → ℕ → ℕ → ℕ
 span_height heights a b = page_height (take (b - a) (drop a heights))
 
--- The cost of the page of the groups from a to b, if it fits: the square of what it leaves free, by 100; the last
--- page costs nothing.
+-- The cost of the page of the groups from a to b, if it fits: the square of what it leaves free, by `free_step`; the
+-- last page costs nothing.
 abbrev pub square : ℕ → ℕ
 square n = n * n
 
 abbrev pub page_cost : ℕ → List ℤ → ℕ → ℕ → Option ℕ
 page_cost high heights a b =
     if nat_le (span_height heights a b) high
-    then Some (if b == length heights then 0 else square ((high - span_height heights a b) / 100))
+    then Some (if b == length heights then 0 else square ((high - span_height heights a b) / free_step))
     else None
 
 -- heights of groups that fit on a page
@@ -111,23 +111,25 @@ pub cost_stops : (high : ℕ) (hs : List ℤ) (a b c : ℕ)
     → a < b → b < c → page_cost high hs a b ≡ None → page_cost high hs a c ≡ None
 cost_stops high hs a b c l m e =
     let past = if_none (nat_le (span_height hs a b) high)
-    (if b == length hs then 0 else square ((high - span_height hs a b) / 100)) e in
+    (if b == length hs then 0 else square ((high - span_height hs a b) / free_step)) e in
     let more = stacked_more (b - a) (c - a) (drop a hs) (omega arith) in
     let miss : nat_le (span_height hs a c) high ≡ false = grind (arith, nat_tests, past, more) in
-    ap (λ t. if t then Some (if c == length hs then 0 else square ((high - span_height hs a c) / 100)) else None) miss
+    ap (λ t. if t then Some (if c == length hs then 0 else square ((high - span_height hs a c) / free_step)) else None)
+    miss
 
-square_small : (n : ℕ) → n ≤ 671089 → square n ≤ 2 ^ 40
+square_small : (n : ℕ) → n ≤ most_free → square n ≤ 2 ^ 40
 square_small n few = grind arith
 
-free_small : (high s : ℕ) → high ≤ 2 ^ 26 → (high - s) / 100 ≤ 671089
+free_small : (high s : ℕ) → high ≤ tallest_page → (high - s) / free_step ≤ most_free
 free_small high s low = grind arith
 
-pub cost_small : (high : ℕ) (hs : List ℤ) → high ≤ 2 ^ 26 → (a b : ℕ) → IfSome (page_cost high hs a b) (λ v. v ≤ 2 ^ 40)
+pub cost_small : (high : ℕ) (hs : List ℤ)
+    → high ≤ tallest_page → (a b : ℕ) → IfSome (page_cost high hs a b) (λ v. v ≤ 2 ^ 40)
 cost_small high hs low a b = by (nat_le (span_height hs a b) high) (b == length hs)
   where
     by : (t u : Bool)
-        → IfSome (if t then Some (if u then 0 else square ((high - span_height hs a b) / 100)) else None)
+        → IfSome (if t then Some (if u then 0 else square ((high - span_height hs a b) / free_step)) else None)
         (λ v. v ≤ 2 ^ 40)
     by false u = tt
     by true true = omega arith
-    by true false = square_small ((high - span_height hs a b) / 100) (free_small high (span_height hs a b) low)
+    by true false = square_small ((high - span_height hs a b) / free_step) (free_small high (span_height hs a b) low)

@@ -2,17 +2,17 @@
 -- of blocks is a group.
 use Rattle.std.specs.Prelude.{◌≡◌, ◌^◌, ◌≤◌, ⊤, ℕ, suc, ◌+◌, nat_le, nat_lt, ℤ, pos, negsuc, ◌-ℤ◌, ◌≤ℤ◌, ◌<ℤ◌, Bool}
 use Rattle.std.specs.Prelude.{true, false, not, ◌&&◌, ◌||◌, List, [], ◌∷◌, Option, Some, None}
-use Rattle.lay_pages.specs.Distances.{block_gap}
+use Rattle.lay_pages.specs.Distances.{block_gap, tallest_block}
 use Rattle.lay_pages.specs.declared.filling.Block.{Block}
 use Rattle.lay_pages.specs.declared.filling.Spot.{Spot}
 use Rattle.lay_pages.specs.declared.filling.BlockSpot.{BlockSpot}
 use Rattle.lay_pages.specs.declared.filling.PlacedBlock.{PlacedBlock}
 use Rattle.lay_pages.specs.declared.filling.PageError.{PageError}
 
--- heights of 0 to 2^40
+-- heights of 0 to that of the tallest block
 abbrev pub AreGoodBlocks : List Block → Type 0
 AreGoodBlocks [] = ⊤
-AreGoodBlocks (block ∷ more) = ((pos 0 ≤ℤ block.height) × (block.height ≤ℤ pos (2 ^ 40))) × AreGoodBlocks more
+AreGoodBlocks (block ∷ more) = ((pos 0 ≤ℤ block.height) × (block.height ≤ℤ pos tallest_block)) × AreGoodBlocks more
 
 -- the height of the group that begins here: its blocks, with a gap between two
 abbrev pub height_number : ℤ → ℕ
@@ -90,7 +90,7 @@ down_after (Some last) = last.place.down
 -- others may come after it: it is not tied, and no higher than a block may be
 pub record IsOpenEnd (last : PlacedBlock) : Type 0 where
   pub keep : last.block.keep ≡ false
-  pub height : last.block.height ≤ℤ pos (2 ^ 40)
+  pub height : last.block.height ≤ℤ pos tallest_block
   pub down : last.place.down ≤ 2 ^ 32
 
 abbrev pub CanFollow : Option PlacedBlock → Type 0

@@ -1,5 +1,11 @@
 //! The distances of pages, in u, with the names that the definitions give them.
 
+/// The greatest height of a block.
+pub const TALLEST_BLOCK: u64 = 1_099_511_627_776;
+
+/// What a page leaves free counts by this.
+pub const FREE_STEP: u64 = 100;
+
 /// Between two blocks of a page.
 pub const BLOCK_GAP: u64 = 1500;
 

@@ -1,12 +1,13 @@
 ghost use Rattle.std.specs.Prelude.{◌≡◌, ◌<◌, ◌≤◌, ◌-◌, ◌^◌, pos, ◌≤ℤ◌, false, refl, true, All, length, IfOk, IfErr};
 ghost use Rattle.std.specs.Prelude.{None};
 ghost use Rattle.lay_breaks.specs.Breaking.{IsChosen};
+ghost use Rattle.lay_pages.specs.Distances.{tallest_block, tallest_page};
 ghost use Rattle.lay_pages.specs.Even.{AreHeights, AreSpots, StandByPages, cost_small, cost_stops, group_heights};
-ghost use Rattle.lay_pages.specs.Even.{groups_after, page_cost, page_height};
+ghost use Rattle.lay_pages.specs.Even.{groups_after, most_groups, page_cost, page_height};
 ghost use Rattle.lay_pages.specs.Filling.{AreGoodBlocks, AreWithin, IsPageError, first_tall};
 ghost use Rattle.lay_pages.specs.Parting.{AreFitting, ends_after, even_spot_after, parted_spots, turns};
 
-use crate::distances::BLOCK_GAP;
+use crate::distances::{BLOCK_GAP, FREE_STEP};
 use crate::filling::{
     Block, BlockSpot, PageError, Spot, fill, first_tall, group_height, height_number, spot_at,
 };
@@ -18,20 +19,20 @@ use std::alloc::Global;
 const MOST_GROUPS: usize = 8_388_608;
 
 /// The costs of pages of groups. Groups are the bars, given by their heights in u, each of which
-/// fits on a page that is `high` u high. A page costs the square of what it leaves free, by 100;
+/// fits on a page that is `high` u high. A page costs the square of what it leaves free, by 100 u;
 /// the last page nothing.
 #[derive(Drop)]
 pub struct PageCosts {
     pub heights: Row<i64>,
     pub high: u32,
-    ghost small: { high ≤ 2 ^ 26 },
+    ghost small: { high ≤ tallest_page },
     ghost within: { AreHeights high heights },
 }
 
 /// Returns the height of groups on a page, with a gap between two.
 fn page_height(heights: &[i64]) -> u64
     requires few { length heights.now < 2 ^ 32 }
-    requires good { All (λ h. h ≤ℤ pos (2 ^ 26)) heights.now }
+    requires good { All (λ h. h ≤ℤ pos tallest_page) heights.now }
     ensures { result ≡ page_height heights.now }
 {
     let mut stacked: u64 = 0;
@@ -57,7 +58,7 @@ impl Costs for PageCosts {
         if b as usize == heights.len() {
             return Some(0);
         }
-        let free = (u64::from(self.high) - height) / 100;
+        let free = (u64::from(self.high) - height) / FREE_STEP;
         Some(free * free)
     }
 
@@ -95,7 +96,7 @@ fn group_heights(alloc: Global, blocks: &[Block], high: u32) -> Result<Row<i64>,
 
 /// Returns the chosen split of groups into pages: the numbers of groups up to the end of each page.
 fn even_breaks(alloc: Global, costs: PageCosts, groups: u32) -> Result<Row<u32>, Memory>
-    requires few { groups ≤ 8388608 }
+    requires few { groups ≤ most_groups }
     requires all { groups ≡ length costs.heights }
     ensures { IfOk result (IsChosen (page_cost costs.high costs.heights) (λ b. false) groups) }
 {
@@ -129,7 +130,7 @@ fn ends_after(turned: bool, ends: &[u32]) -> &[u32]
 
 /// Returns the spot of the block after the one at `place`.
 fn even_spot_after(turned: bool, place: BlockSpot, block: Block) -> BlockSpot
-    requires height { block.height ≤ℤ pos (2 ^ 40) }
+    requires height { block.height ≤ℤ pos tallest_block }
     requires page { place.page < 2 ^ 32 - 1 }
     requires down { place.down ≤ 2 ^ 32 }
     ensures { result ≡ even_spot_after turned place block }
@@ -179,12 +180,12 @@ fn part(alloc: Global, high: u32, breaks: &[u32], blocks: &[Block]) -> Result<Ro
 
 /// Returns the spots of blocks on pages that are `high` u high and filled evenly: their groups are
 /// split into pages so that no other split into pages that fit costs less. Each page but the last
-/// costs the square of what it leaves free, by 100. On a page the blocks are under one another as
+/// costs the square of what it leaves free, by 100 u. On a page the blocks are under one another as
 /// `fill` places them. More than 8,388,608 groups are placed by `fill`.
 pub fn fill_even(alloc: Global, blocks: &[Block], high: u32) -> Result<Row<Spot>, PageError>
     requires few { length blocks.now < 2 ^ 32 }
     requires good { AreGoodBlocks blocks.now }
-    requires page { high ≤ 2 ^ 26 }
+    requires page { high ≤ tallest_page }
     ensures spots { IfOk result (AreSpots true high blocks.now) }
     ensures within { IfOk result (AreWithin high blocks.now) }
     ensures stacked { IfOk result (StandByPages high blocks.now) }

@@ -1,5 +1,6 @@
 ghost use Rattle.std.specs.Prelude.{◌≡◌, ◌<◌, ◌≤◌, ◌+◌, ◌-◌, ◌*◌, ◌^◌, pos, ◌≤ℤ◌, nat_le, nat_lt, length, IfOk, IfErr};
 ghost use Rattle.std.specs.Prelude.{None};
+ghost use Rattle.lay_pages.specs.Distances.{tallest_block};
 ghost use Rattle.lay_pages.specs.Filling.{AreGoodBlocks, CanFollow, IsLoose, last_block_after, down_after, first_place};
 ghost use Rattle.lay_pages.specs.Filling.{height_number, group_height, next_place, pages_after, spot_at, spots_after};
 ghost use Rattle.lay_pages.specs.Filling.{spots_from, spots_of, standing_from, first_tall, AreWithin, AreFilled};
@@ -86,9 +87,9 @@ pub struct Placement {
 }
 
 pub(crate) fn height_number(height: i64) -> u64
-    requires { height ≤ℤ pos (2 ^ 40) }
+    requires { height ≤ℤ pos tallest_block }
     ensures value { result ≡ height_number height }
-    ensures most { result ≤ 2 ^ 40 }
+    ensures most { result ≤ tallest_block }
 {
     if height < 0 { 0 } else { height as u64 }
 }
@@ -156,7 +157,7 @@ fn fits_at(high: u32, down: u64, blocks: &[Block]) -> bool
 fn next_place(high: u32, place: BlockSpot, block: Block, more: &[Block]) -> BlockSpot
     requires few { length more.now < 2 ^ 32 }
     requires good { AreGoodBlocks more.now }
-    requires height { block.height ≤ℤ pos (2 ^ 40) }
+    requires height { block.height ≤ℤ pos tallest_block }
     requires page { place.page < 2 ^ 32 - 1 }
     requires down { place.down ≤ 2 ^ 32 }
     ensures { result ≡ next_place high place block more.now }

@@ -1,4 +1,5 @@
 ghost use Rattle.std.specs.Prelude.{◌≡◌, ◌≤◌, ◌-◌, ◌++◌, ◌^◌, pos, ◌-ℤ◌, ◌≤ℤ◌, length, IfOk, OnOk};
+ghost use Rattle.lay_pages.specs.Distances.{tallest_block};
 ghost use Rattle.lay_pages.specs.Stacking.{AreGoodStaves, AreStavesStacked, above_base, below_base, under_top};
 ghost use Rattle.lay_pages.specs.Stacking.{bases_after, bases_under, bottom_after, bottom_under};
 
@@ -24,7 +25,7 @@ pub fn stack(alloc: Global, system: &SystemMarks, gaps: &[u32]) -> Result<Height
     ensures stacked { IfOk result
         (λ h. AreStavesStacked (pos 0) gaps.now system.now.staves h.bases (pos 0 -ℤ h.height)) }
     ensures low { IfOk result (λ h. pos 0 ≤ℤ h.height) }
-    ensures high { IfOk result (λ h. h.height ≤ℤ pos (2 ^ 40)) }
+    ensures high { IfOk result (λ h. h.height ≤ℤ pos tallest_block) }
 {
     let (bases, bottom) = bases_under(alloc, system.staves.as_slice(), gaps)?;
     Ok(Heights {
@@ -55,7 +56,7 @@ fn below_base(height: i32) -> u64
 
 /// Returns the height of what is this far below the top of the block.
 fn under_top(down: u64) -> i64
-    requires { down ≤ 2 ^ 40 }
+    requires { down ≤ tallest_block }
     ensures { result ≡ under_top down }
 {
     -(down as i64)
@@ -74,7 +75,7 @@ fn put_bases(
     requires low { bottom ≤ 2 ^ 33 }
     ensures bases { OnOk result (bases.new ≡ bases.old ++ bases_after bottom staves.now gaps.now) }
     ensures bottom { IfOk result (λ r. r ≡ bottom_after bottom staves.now gaps.now) }
-    ensures within { IfOk result (λ r. r ≤ 2 ^ 40) }
+    ensures within { IfOk result (λ r. r ≤ tallest_block) }
 {
     let mut bottom = bottom;
     for (staff, gap) in staves.iter().zip(gaps) {
@@ -95,7 +96,7 @@ fn bases_under(
     requires each { length gaps.now ≡ length staves.now - 1 }
     ensures bases { IfOk result (λ r. r.0 ≡ bases_under staves.now gaps.now) }
     ensures bottom { IfOk result (λ r. r.1 ≡ bottom_under staves.now gaps.now) }
-    ensures within { IfOk result (λ r. r.1 ≤ 2 ^ 40) }
+    ensures within { IfOk result (λ r. r.1 ≤ tallest_block) }
 {
     let mut bases = Row::new(alloc);
     let [first, more @ ..] = staves else {

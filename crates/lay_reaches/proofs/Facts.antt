@@ -16,6 +16,7 @@ use Rattle.lay_springs.specs.{declared.traits.Reach.Reach, Fit.StandsInAll, Reac
 use Rattle.lay_reaches.specs.declared.column.Column.{Column}
 use Rattle.lay_reaches.specs.Column.{spring_length}
 use Rattle.lay_reaches.specs.Columns.{columns_from, IsNearReach, IsSmall, IsUncut, StandsWhereDue}
+use Rattle.lay_reaches.specs.Distances.{most_length, other_gap}
 use Rattle.lay_reaches.specs.Lanes.{gaps_of, lane_count, staff_gaps}
 use Rattle.lay_reaches.specs.Naturals.{is_note_key, is_note_of, natural_for, natural_of, tick_or_end}
 use Rattle.lay_reaches.specs.Reaches.{drawn_reach, drawn_row, left_of, reach_over, reaches_of, right_of, staff_reaches}
@@ -66,25 +67,25 @@ near_all always rank (staff ∷ staves) (v ∷ verses) =
     (reaches_of always rank staves verses)
     (near_row always rank staff.marks v) (near_all always rank staves verses)
 
-natural_near : (ticks : ℕ) → natural_for ticks ≤ 4000
+natural_near : (ticks : ℕ) → natural_for ticks ≤ most_length
 natural_near ticks = grind arith
 
 natural_small : (key : ColumnKey) (following : List ColumnKey) (lengths : List ℕ)
-    → natural_of key following lengths ≤ 4000
+    → natural_of key following lengths ≤ most_length
 natural_small key following lengths = by (is_note_key key)
   where
     by : (b : Bool)
         → (if b then natural_for (tick_or_end key.measure (find (is_note_of key.measure) following) lengths - key.tick)
         else 0)
-        ≤ 4000
+        ≤ most_length
     by true = natural_near (tick_or_end key.measure (find (is_note_of key.measure) following) lengths - key.tick)
     by false = omega arith
 
 -- ---- uncut
 cut_same : (reach : Reach) → IsNearReach reach → cut_reach reach ≡ reach
 cut_same reach h =
-    let l : min reach.left (2 ^ 20) ≡ reach.left = let n = h.0 in omega (arith, n) in
-    let r : min reach.right (2 ^ 20) ≡ reach.right = let n = h.1 in omega (arith, n) in
+    let l : min reach.left most_reach ≡ reach.left = let n = h.0 in omega (arith, n) in
+    let r : min reach.right most_reach ≡ reach.right = let n = h.1 in omega (arith, n) in
     rw (l, r) refl
 
 pub reach_same : (reaches : List (Option Reach)) (lane : ℕ)
@@ -103,9 +104,9 @@ reach_same reaches lane all = by (slice_get reaches lane) refl
         subst (λ t. IfSome t IsNearReach) (get_or_from_slice_get reaches lane (Some reach) (Some reach) e) near in
         rw e (ap (λ t. Some t) (cut_same reach here))
 
-pub spring_same : (natural force : ℕ) → natural ≤ 4000 → spring_length natural force ≡ natural * force / 256
+pub spring_same : (natural force : ℕ) → natural ≤ most_length → spring_length natural force ≡ natural * force / 256
 unfolding spring_length
-spring_same natural force h = let e : min natural 4000 ≡ natural = omega (arith, h) in rw e refl
+spring_same natural force h = let e : min natural most_length ≡ natural = omega (arith, h) in rw e refl
 
 -- ---- an entry per lane
 staff_long : (always : Bool) (rank : ℕ) (marks : List Laid) (verses : ℕ)
@@ -113,7 +114,7 @@ staff_long : (always : Bool) (rank : ℕ) (marks : List Laid) (verses : ℕ)
 staff_long always rank marks verses =
     let a = length-map (drawn_row marks (lane_count verses) rank) (standing always) in
     let b = length-map-range_with_len (drawn_reach marks rank) 0 (lane_count verses) in
-    let c = length-replicate {A = ℕ} (2 + verses) 300 in grind (arith, a, b, c)
+    let c = length-replicate {A = ℕ} (2 + verses) other_gap in grind (arith, a, b, c)
 
 pub reaches_long : (always : Bool) (rank : ℕ) (staves : List StaffMarks) (verses : List ℕ)
     → length verses ≡ length staves → length (reaches_of always rank staves verses) ≡ length (gaps_of verses)

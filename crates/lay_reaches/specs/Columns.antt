@@ -13,6 +13,7 @@ use Rattle.lay_springs.specs.Place.{reach_at}
 use Rattle.lay_springs.specs.ReachView.{most_reach, reach_in}
 use Rattle.lay_reaches.specs.declared.column.Column.{Column}
 use Rattle.lay_reaches.specs.Column.{spring_length}
+use Rattle.lay_reaches.specs.Distances.{most_length}
 use Rattle.lay_reaches.specs.Lanes.{gaps_of, lane_count, lane_number, lane_start}
 use Rattle.lay_reaches.specs.Naturals.{natural_of}
 use Rattle.lay_reaches.specs.Reaches.{rank_of_mark, reaches_of, stands_always}
@@ -60,7 +61,7 @@ abbrev pub IsNearReach : Reach → Type 0
 IsNearReach reach = (reach.left ≤ most_reach) × (reach.right ≤ most_reach)
 
 pub record IsSmall (column : Column) : Type 0 where
-  pub natural : column.natural ≤ 4000
+  pub natural : column.natural ≤ most_length
   pub reaches : All (λ o. IfSome o IsNearReach) column.reaches
 
 -- as placing sees it, nothing of the column is cut

@@ -1,5 +1,6 @@
 pub mod Column
 pub mod Columns
+pub mod Distances
 pub mod Lanes
 pub mod Naturals
 pub mod Reaches

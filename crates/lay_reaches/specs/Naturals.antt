@@ -6,18 +6,20 @@ use Rattle.std.specs.List.{find}
 use Rattle.mus_units.specs.Value.{whole_note}
 use Rattle.mus_onsets.specs.declared.keys.Class.{Class}
 use Rattle.mus_onsets.specs.declared.keys.ColumnKey.{ColumnKey}
+use Rattle.lay_reaches.specs.Distances.{breve_length, whole_length, half_length, quarter_length, eighth_length}
+use Rattle.lay_reaches.specs.Distances.{length_of_16th, length_of_32nd, length_of_64th, least_length}
 
 -- that of the greatest row that isn't above the ticks
 abbrev pub natural_for : ℕ → ℕ
 natural_for ticks =
-    if nat_le (2 * whole_note) ticks then 4000 else
-    (if nat_le whole_note ticks then 2900 else
-    (if nat_le (whole_note / 2) ticks then 2100 else
-    (if nat_le (whole_note / 4) ticks then 1500 else
-    (if nat_le (whole_note / 8) ticks then 1100 else
-    (if nat_le (whole_note / 16) ticks then 850 else
-    (if nat_le (whole_note / 32) ticks then 700 else
-    (if nat_le (whole_note / 64) ticks then 600 else 500)))))))
+    if nat_le (2 * whole_note) ticks then breve_length else
+    (if nat_le whole_note ticks then whole_length else
+    (if nat_le (whole_note / 2) ticks then half_length else
+    (if nat_le (whole_note / 4) ticks then quarter_length else
+    (if nat_le (whole_note / 8) ticks then eighth_length else
+    (if nat_le (whole_note / 16) ticks then length_of_16th else
+    (if nat_le (whole_note / 32) ticks then length_of_32nd else
+    (if nat_le (whole_note / 64) ticks then length_of_64th else least_length)))))))
 
 abbrev pub is_note_key : ColumnKey → Bool
 is_note_key key = is_note_class key.class

@@ -1,10 +1,9 @@
 ghost use Rattle.lay_springs.specs.ReachView.{reach_in};
 
+use crate::distances::MOST_LENGTH;
 use crate::stands::Reaches;
 use lay_springs::{LinearSpring, ReachView, Spaced, Spring};
 use mus_onsets::ColumnKey;
-
-const MOST_NATURAL: u32 = 4000;
 
 /// A column of a system: its key; its reach in each lane, `None` if it isn't in the lane; and the
 /// natural length of the spring to the next column, in u, 0 without a spring. Lanes are, for each
@@ -36,7 +35,7 @@ impl Spring for Column {
 
     #[tactic(auto, unfolding(crate::specs::Column::spring_length))]
     fn length(&self, force: u16) -> u32 {
-        self.natural.min(MOST_NATURAL) * u32::from(force) / 256
+        self.natural.min(MOST_LENGTH) * u32::from(force) / 256
     }
 
     ghost rises = { λ c f g l m. length_rises c.natural f g l };

@@ -1,6 +1,7 @@
 ghost use Rattle.std.specs.Prelude.{◌≡◌, ◌++◌, ◌*◌, ◌^◌, ◌<◌, ◌≤◌, ℕ, All, IfOk, OnOk, length, slice_index};
 ghost use Rattle.lay_reaches.specs.Lanes.{lane_count, lane_number, lanes_of, staff_gaps, gaps_of};
 
+use crate::distances::{MAIN_GAP, OTHER_GAP};
 use mus_laid::Lane;
 use mus_units::{Memory, Row};
 use std::alloc::Global;
@@ -39,9 +40,9 @@ pub(crate) fn lanes_of(verses: &[u8]) -> Result<usize, Memory>
 fn put_gaps(out: &mut Row<u32>, verses: u8) -> Result<(), Memory>
     ensures { OnOk result (out.new ≡ out.old ++ staff_gaps verses) }
 {
-    out.push(100)?;
+    out.push(MAIN_GAP)?;
     for _ in 1..lane_count(verses) {
-        out.push(300)?;
+        out.push(OTHER_GAP)?;
     }
     Ok(())
 }

@@ -5,6 +5,7 @@
 #![tactic(auto)]
 
 pub mod column;
+pub mod distances;
 pub mod lanes;
 pub mod reaches;
 pub mod springs;

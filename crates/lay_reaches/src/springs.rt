@@ -2,6 +2,10 @@ ghost use Rattle.std.specs.{Prelude.◌≡◌, List.find};
 ghost use Rattle.lay_reaches.specs.Naturals.{natural_for, is_note_key, is_note_of, length_of_measure, tick_or_end};
 ghost use Rattle.lay_reaches.specs.Naturals.{natural_of};
 
+use crate::distances::{
+    BREVE_LENGTH, EIGHTH_LENGTH, HALF_LENGTH, LEAST_LENGTH, LENGTH_OF_16TH, LENGTH_OF_32ND,
+    LENGTH_OF_64TH, QUARTER_LENGTH, WHOLE_LENGTH,
+};
 use mus_onsets::{Class, ColumnKey};
 use mus_units::WHOLE;
 
@@ -10,23 +14,23 @@ fn natural_for(ticks: u64) -> u32
     ensures { result ≡ natural_for ticks }
 {
     if ticks >= 2 * WHOLE {
-        4000
+        BREVE_LENGTH
     } else if ticks >= WHOLE {
-        2900
+        WHOLE_LENGTH
     } else if ticks >= WHOLE / 2 {
-        2100
+        HALF_LENGTH
     } else if ticks >= WHOLE / 4 {
-        1500
+        QUARTER_LENGTH
     } else if ticks >= WHOLE / 8 {
-        1100
+        EIGHTH_LENGTH
     } else if ticks >= WHOLE / 16 {
-        850
+        LENGTH_OF_16TH
     } else if ticks >= WHOLE / 32 {
-        700
+        LENGTH_OF_32ND
     } else if ticks >= WHOLE / 64 {
-        600
+        LENGTH_OF_64TH
     } else {
-        500
+        LEAST_LENGTH
     }
 }
 

@@ -1,3 +1,4 @@
 pub mod Badness
 pub mod Costs
+pub mod Parts
 pub mod Tables

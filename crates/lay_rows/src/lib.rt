@@ -6,6 +6,8 @@
 
 pub mod forces;
 pub mod maker;
+mod parts;
+mod ranges;
 pub mod rows;
 
 pub use forces::badness;

@@ -20,4 +20,4 @@ pub use breaks::break_of;
 pub use costs::FittingSpans;
 pub use measures::Measures;
 pub use seen::BorrowedColumn;
-pub use spans::{columns_in, spans_of};
+pub use spans::{SpanInput, columns_in, spans_of};

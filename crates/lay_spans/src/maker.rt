@@ -3,7 +3,7 @@ ghost use Rattle.lay_spans.specs.Rows.{IsRowFrom};
 ghost use Rattle.lay_spans.specs.Single.{one_row, row_low};
 
 use crate::measures::Measures;
-use crate::rows::row_from;
+use crate::rows::{RowSpace, row_from};
 use lay_rows::RowMaker;
 use lay_springs::{LinearSpring, Spaced};
 use mus_units::{Memory, Row};
@@ -27,14 +27,15 @@ impl<'a, C: Spaced + LinearSpring> RowMaker for SpanMaker<'a, C> {
         m.measures.now.others.now
         (λ b. slice_index_or m.marks.now b false) a row };
 
-    fn forces_from(&self, a: u32) -> Result<Row<u16>, Memory> {
-        row_from(
-            self.alloc,
-            self.measures,
-            self.width,
-            self.marks,
-            a as usize,
-        )
+    fn rows_between(&self, from: u32, to: u32) -> Result<Row<Row<u16>>, Memory> {
+        let mut rows = Row::with_room(self.alloc, (to - from) as usize)?;
+        let measures = self.measures;
+        let mut space = RowSpace::new(self.alloc, measures.gaps.list.len())?;
+        for a in from..to {
+            let row = row_from(self, &mut space, a as usize)?;
+            rows.push(row)?;
+        }
+        Ok(rows)
     }
 
     ghost is_one = { λ m a row other l h k.

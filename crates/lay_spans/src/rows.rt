@@ -5,11 +5,12 @@ ghost use Rattle.lay_spans.specs.Columns.{measures_from};
 ghost use Rattle.lay_spans.specs.Rows.{IsRowFrom, row_spans, rows_spans};
 ghost use Rattle.lay_spans.specs.SpanList.{FitsAt, FitsAtForce};
 
+use crate::maker::SpanMaker;
 use crate::measures::Measures;
 use crate::seen::BorrowedColumn;
 use lay_breaks::Span;
 use lay_rows::badness;
-use lay_springs::{LinearSpring, Progress, Spaced, SpacedColumns, fit_within, most_columns};
+use lay_springs::{Gaps, LinearSpring, Placing, Progress, Spaced, SpacedColumns, most_columns};
 use mus_units::{Memory, Row};
 use std::alloc::Global;
 
@@ -19,37 +20,53 @@ pub(crate) const MOST_OFTEN: usize = 64;
 /// The capacity for spans that is reserved for a row; most rows have no more.
 const SPANS_OFTEN: usize = 8;
 
+/// What a search for a force is given: the gaps that columns keep, the width, in u, and the greatest
+/// force that counts.
+#[derive(Clone, Copy)]
+struct Search<'a> {
+    gaps: Gaps<'a>,
+    width: u32,
+    most: u16,
+}
+
 /// Returns the greatest force from 0 to `most` at which the columns end within the width. `None`
 /// exactly when they can't be within it; more than `most_columns` never can.
 fn greatest_force<C: Spaced + LinearSpring>(
-    columns: SpacedColumns<'_, C>,
-    width: u32,
-    most: u16,
+    cols: &[C],
+    search: Search<'_>,
     at: &mut [i64],
     front: &mut [i64],
     placed: &mut Progress,
 ) -> Option<u16>
-    requires most { most ≤ 2048 }
-    requires room { length columns.cols.now ≤ length at.old }
-    requires one_each { length front.old ≡ length columns.gaps.list.now }
-    requires placed { HasPlaced (length columns.cols.now) (reach_at C.reach_of columns.cols.now) columns.gaps.list.now
-        (length_at C.length_of columns.cols.now) placed.old at.old front.old }
-    ensures placed { HasPlaced (length columns.entry.cols.now) (reach_at C.reach_of columns.entry.cols.now)
-        columns.entry.gaps.list.now
-        (length_at C.length_of columns.entry.cols.now) placed.new at.new front.new }
-    ensures bound { IfSome result (λ f. f ≤ most) }
-    ensures fits { IfSome result (λ f. FitsAt C.reach_of C.length_of columns.entry.gaps.list.now width f
-        columns.entry.cols.now) }
-    ensures greatest { IfSome result
-        (λ f. (g : ℕ) → f < g → g ≤ most → FitsAtForce C.reach_of C.length_of columns.entry.gaps.list.now width g
-        columns.entry.cols.now → ⊥) }
-    ensures none { IfNone result (FitsAtForce C.reach_of C.length_of columns.entry.gaps.list.now width 0
-        columns.entry.cols.now → ⊥) }
+    requires some { 0 < length cols.now }
+    requires most { search.most ≤ 2048 }
+    requires room { length cols.now ≤ length at.old }
+    requires one_each { length front.old ≡ length search.gaps.list.now }
+    requires placed { HasPlaced (length cols.now) (reach_at C.reach_of cols.now) search.gaps.list.now
+        (length_at C.length_of cols.now) placed.old at.old front.old }
+    ensures placed { HasPlaced (length cols.now) (reach_at C.reach_of cols.now) search.entry.gaps.list.now
+        (length_at C.length_of cols.now) placed.new at.new front.new }
+    ensures bound { IfSome result (λ f. f ≤ search.entry.most) }
+    ensures fits { IfSome result (λ f. FitsAt C.reach_of C.length_of search.entry.gaps.list.now search.entry.width f
+        cols.now) }
+    ensures greatest { IfSome result (λ f. (g : ℕ) → f < g → g ≤ search.entry.most
+        → FitsAtForce C.reach_of C.length_of search.entry.gaps.list.now search.entry.width g cols.now → ⊥) }
+    ensures none { IfNone result (FitsAtForce C.reach_of C.length_of search.entry.gaps.list.now search.entry.width 0
+        cols.now → ⊥) }
 {
-    if most_columns(width) < columns.cols.len() {
+    let Search { gaps, width, most } = search;
+    if most_columns(width) < cols.len() {
         return None;
     }
-    fit_within(columns, width, most, at, front, placed)
+    let mut placing = Placing {
+        columns: SpacedColumns { cols, gaps },
+        at,
+        front,
+        progress: *placed,
+    };
+    let found = placing.search_within(width, most);
+    *placed = found.progress;
+    found.force
 }
 
 /// Returns the columns of measure `m` in a system that begins at bar `a`.
@@ -81,54 +98,63 @@ pub(crate) fn see<'a, C: Spaced + LinearSpring>(
     Ok(())
 }
 
-/// Returns how many columns the searches from bar `a` are given at most: those of the measures up to
-/// a forced bar, or to the first with which they are too many to be within the width.
-fn room_from<C: Spaced>(measures: &Measures<'_, C>, width: u32, marks: &[bool], a: usize) -> usize {
-    let most = most_columns(width);
-    let mut room: usize = 0;
-    for m in a..measures.starts.len() {
-        room = room.saturating_add(measure(measures, a, m).len());
-        if most < room || marks.get(m + 1) == Some(&true) {
-            return room;
-        }
+/// What the searches of rows write: the abscissa of each column, the frontier of each lane, and the
+/// columns up to the last measure that is added. One row after another uses it, so few rows take
+/// memory for it.
+#[derive(Drop)]
+pub(crate) struct RowSpace<'a, C: Spaced + LinearSpring> {
+    at: Vec<i64>,
+    front: Vec<i64>,
+    seen: Row<BorrowedColumn<'a, C>>,
+}
+
+impl<'a, C: Spaced + LinearSpring> RowSpace<'a, C> {
+    /// Returns space for rows of columns in a number of lanes.
+    pub(crate) fn new(alloc: Global, lanes: usize) -> Result<RowSpace<'a, C>, Memory>
+        ensures { IfOk result (λ space. length space.front.items ≡ lanes) }
+    {
+        Ok(RowSpace {
+            at: Vec::with_capacity(alloc, MOST_OFTEN)?,
+            front: vec![in alloc; 0; lanes]?,
+            seen: Row::with_room(alloc, MOST_OFTEN)?,
+        })
     }
-    room
 }
 
 /// Returns the forces of the spans from bar `a`, from the shortest to the longest that fits. It adds
 /// the columns of one measure at a time, and stops at the first span that doesn't fit or after a
 /// forced bar. Each search for a force resumes from the columns as the search before left them, and
-/// takes no memory: its scratch is reserved before the first.
+/// takes no memory.
 pub(crate) fn row_from<'a, C: Spaced + LinearSpring>(
-    alloc: Global,
-    measures: &Measures<'a, C>,
-    width: u32,
-    marks: &[bool],
+    maker: &SpanMaker<'a, C>,
+    space: &mut RowSpace<'a, C>,
     a: usize,
 ) -> Result<Row<u16>, Memory>
-    requires marked { length marks.now ≡ length measures.now.starts.now + 1 }
-    requires inside { a < length measures.now.starts.now }
-    ensures { IfOk result (λ row. IsRowFrom C.reach_of C.length_of measures.now.gaps.list.now width
-        measures.now.starts.now measures.now.others.now
-        (λ b. slice_index_or marks.now b false) a row) }
+    requires inside { a < length maker.now.measures.now.starts.now }
+    requires one_each { length space.old.front.items ≡ length maker.now.measures.now.gaps.list.now }
+    ensures one_each { OnOk result (length space.new.front.items ≡ length maker.now.measures.now.gaps.list.now) }
+    ensures row { IfOk result (λ row. IsRowFrom C.reach_of C.length_of maker.now.measures.now.gaps.list.now
+        maker.now.width maker.now.measures.now.starts.now maker.now.measures.now.others.now
+        (λ b. slice_index_or maker.now.marks.now b false) a row) }
 {
-    let room = room_from(measures, width, marks, a);
-    let mut at = Vec::with_capacity(alloc, room)?;
-    let mut ends = vec![in alloc; 0; measures.gaps.list.len()]?;
-    let front = ends.as_mut_slice();
+    let (measures, marks) = (maker.measures, maker.marks);
+    let RowSpace { at, front, seen } = space;
+    at.clear();
+    seen.items.clear();
+    let front = front.as_mut_slice();
     let placed = &mut Progress::none();
-    let mut seen = Row::with_room(alloc, room)?;
-    let mut row = Row::with_room(alloc, SPANS_OFTEN)?;
+    let mut row = Row::with_room(maker.alloc, SPANS_OFTEN)?;
     let mut most = 2048;
     for m in a..measures.starts.len() {
-        see(&mut seen, measure(measures, a, m))?;
+        see(seen, measure(measures, a, m))?;
         let cols = seen.as_slice();
         at.resize(cols.len(), 0)?;
-        let columns = SpacedColumns {
-            cols,
+        let search = Search {
             gaps: measures.gaps,
+            width: maker.width,
+            most,
         };
-        let Some(force) = greatest_force(columns, width, most, &mut at, front, placed) else {
+        let Some(force) = greatest_force(cols, search, at, front, placed) else {
             return Ok(row);
         };
         row.push(force)?;

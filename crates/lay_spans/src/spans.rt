@@ -17,7 +17,16 @@ use mus_units::{Memory, Row};
 use std::alloc::Global;
 use std::thread::Threads;
 
-/// Returns the spans of measures that fit within a width, in u, by the bar after which they begin
+/// What determines which spans of measures fit: the measures, the width of a system, in u, and the
+/// bars after which a system has to end.
+#[derive(Drop)]
+pub struct SpanInput<'a, C: Spaced> {
+    pub measures: &'a Measures<'a, C>,
+    pub width: u32,
+    pub forced: &'a [u32],
+}
+
+/// Returns the spans of measures that fit within the width, by the bar after which they begin
 /// and then by the bar with which they end.
 ///
 /// The span from bar a to bar b has the measures a to b - 1, counted from 0. A span
@@ -29,20 +38,25 @@ use std::thread::Threads;
 pub fn spans_of<'a, R: Threads + Sync, C: Spaced + LinearSpring + Sync>(
     rt: &R,
     alloc: Global,
-    measures: &Measures<'a, C>,
-    width: u32,
-    forced: &[u32],
+    input: &SpanInput<'a, C>,
     jobs: Jobs,
 ) -> Result<FittingSpans, Memory>
-    ensures form { IfOk result (λ spans. AreSpans (length measures.now.starts.now) spans.list) }
-    ensures bars { IfOk result (λ spans. length spans.rows.rows ≡ length measures.now.starts.now) }
-    ensures forces { IfOk result (λ spans. HaveForces C.reach_of C.length_of measures.now.gaps.list.now width
-        measures.now.starts.now measures.now.others.now
-        (is_forced (length measures.now.starts.now) forced.now) spans.rows.rows) }
-    ensures exact { IfOk result (λ spans. IsSpanList C.reach_of C.length_of measures.now.gaps.list.now width
-        measures.now.starts.now measures.now.others.now
-        (is_forced (length measures.now.starts.now) forced.now) spans.list) }
+    ensures form { IfOk result (λ spans. AreSpans (length input.now.measures.now.starts.now) spans.list) }
+    ensures bars { IfOk result (λ spans. length spans.rows.rows ≡ length input.now.measures.now.starts.now) }
+    ensures forces { IfOk result
+        (λ spans. HaveForces C.reach_of C.length_of input.now.measures.now.gaps.list.now input.now.width
+        input.now.measures.now.starts.now input.now.measures.now.others.now
+        (is_forced (length input.now.measures.now.starts.now) input.now.forced.now) spans.rows.rows) }
+    ensures exact { IfOk result
+        (λ spans. IsSpanList C.reach_of C.length_of input.now.measures.now.gaps.list.now input.now.width
+        input.now.measures.now.starts.now input.now.measures.now.others.now
+        (is_forced (length input.now.measures.now.starts.now) input.now.forced.now) spans.list) }
 {
+    let SpanInput {
+        measures,
+        width,
+        forced,
+    } = *input;
     let marks = marks_of(alloc, forced, measures.starts.len())?;
     let maker = SpanMaker {
         alloc,

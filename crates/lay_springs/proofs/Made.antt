@@ -13,7 +13,7 @@ use Rattle.lay_springs.specs.Fit.{IsEndOf, EndsAt, Fits, Passes, CanStandWithin}
 use Rattle.lay_springs.proofs.Clear.{below_or_at}
 use Rattle.lay_springs.proofs.Ends.{lengths_short}
 use Rattle.lay_springs.proofs.Longer.{fewer_apart, stands}
-use Rattle.lay_springs.proofs.Placing.{placed_first, placed_more, place_of, near_at}
+use Rattle.lay_springs.proofs.Extending.{placed_first, placed_more, place_of, near_at}
 
 -- the least number that is at least `from` and at least all that is required
 pub record Top (from : ℤ) (Asked : ℤ → Type 0) : Type 0 where

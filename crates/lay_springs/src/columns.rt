@@ -10,11 +10,12 @@ pub struct Gaps<'a> {
     pub ghost narrow: { (lane : ℕ) → lane < length list.now → slice_index list.now lane ≤ 2 ^ 20 },
 }
 
-/// Columns to place, at least one, and the gaps that they keep.
+/// Columns to place, from 1 to 2^26, and the gaps that they keep.
 pub struct SpacedColumns<'a, C> {
     pub cols: &'a [C],
     pub gaps: Gaps<'a>,
     pub ghost some: { 0 < length cols.now },
+    pub ghost few: { length cols.now ≤ 2 ^ 26 },
 }
 
 impl<'a, C> Clone for SpacedColumns<'a, C> {

@@ -1,10 +1,11 @@
 ghost use Rattle.std.specs.Prelude.{◌≡◌, ◌+◌, ◌*◌, ◌≢◌, ◌⊎◌, ◌^◌, ◌<◌, ◌≤◌, ℕ, ℤ, pos, negsuc, ◌+ℤ◌, ◌≤ℤ◌, IfOk};
 ghost use Rattle.std.specs.Prelude.{IfSome, length, take, slice_index, slice_index_or, slice_set};
 ghost use Rattle.lay_springs.specs.ReachView.{reach_in};
-ghost use Rattle.lay_springs.specs.Place.{reach_at, length_at, AreLinear, IsPlace, IsPlacedTo, IsNearLeast};
-ghost use Rattle.lay_springs.specs.Place.{AreFrontiers, HasPlaced, IsPast, IsFirst, IsSomewhere, Advances, IsInside};
+ghost use Rattle.lay_springs.specs.Place.{reach_at, length_at, AreLinear, IsPlace, IsPast, IsFirst, IsSomewhere};
+ghost use Rattle.lay_springs.specs.{Place.{Advances, IsInside}, Spaced.{HavePlace, HavePlaced, StayNear}};
 
 use crate::columns::{Gaps, SpacedColumns};
+use crate::placing::Placing;
 use crate::progress::{Progress, TightSprings};
 use crate::traits::{LaneReach, Reach, ReachView, Spaced, Spring, reach_in};
 use mus_units::{Memory, Row};
@@ -197,68 +198,81 @@ fn after(before: i64, spring: u32) -> i64
 /// Places `count` columns in one pass, which keeps the frontier of each lane. Resumes from the
 /// columns that are already placed at this force.
 pub(crate) fn place_to<C: Spaced + Spring>(
-    columns: SpacedColumns<'_, C>,
+    placing: &mut Placing<'_, '_, C>,
     force: u16,
-    at: &mut [i64],
-    front: &mut [i64],
-    placed: Progress,
     count: usize,
 ) -> Progress
-    requires few { length columns.cols.now ≤ 2 ^ 26 }
-    requires room { length columns.cols.now ≤ length at.old }
-    requires one_each { length front.old ≡ length columns.gaps.list.now }
-    requires placed { HasPlaced (length columns.cols.now) (reach_at C.reach_of columns.cols.now) columns.gaps.list.now
-        (length_at C.length_of columns.cols.now) placed at.old front.old }
-    requires within { count ≤ length columns.cols.now }
+    requires within { count ≤ length placing.old.columns.cols.now }
+    requires placed { HavePlaced C.reach_of C.length_of placing.old.columns placing.old.progress placing.old.at.now
+        placing.old.front.now }
+    ensures columns { placing.new.columns ≡ placing.old.columns }
+    ensures at { placing.new.at.ghost_name ≡ placing.old.at.ghost_name }
+    ensures front { placing.new.front.ghost_name ≡ placing.old.front.ghost_name }
+    ensures progress { placing.new.progress ≡ result }
     ensures force { result.force ≡ force }
     ensures some { 0 < result.count }
     ensures count { count ≤ result.count }
-    ensures placed { HasPlaced (length columns.entry.cols.now) (reach_at C.reach_of columns.entry.cols.now)
-        columns.entry.gaps.list.now
-        (length_at C.length_of columns.entry.cols.now) result at.new front.new }
+    ensures placed { HavePlaced C.reach_of C.length_of placing.old.columns result placing.new.at.now
+        placing.new.front.now }
 {
-    let begun = begun(columns, force, at, front, placed);
-    let count = begun.count.max(count);
-    let mut tight = begun.tight;
-    for j in begun.count..count {
-        tight = place_next(columns, force, at, front, j, tight);
-    }
-    Progress {
+    let begun = begun(
+        placing.columns,
         force,
-        count,
-        tight,
-    }
+        placing.at,
+        placing.front,
+        placing.progress,
+    );
+    let done = place_on(placing.columns, placing.at, placing.front, begun, count);
+    placing.progress = done;
+    done
 }
 
 /// Places all columns, as `place_to` does.
 pub(crate) fn place_all<C: Spaced + Spring>(
+    placing: &mut Placing<'_, '_, C>,
+    force: u16,
+) -> Progress
+    requires placed { HavePlaced C.reach_of C.length_of placing.old.columns placing.old.progress placing.old.at.now
+        placing.old.front.now }
+    ensures columns { placing.new.columns ≡ placing.old.columns }
+    ensures at { placing.new.at.ghost_name ≡ placing.old.at.ghost_name }
+    ensures front { placing.new.front.ghost_name ≡ placing.old.front.ghost_name }
+    ensures progress { placing.new.progress ≡ result }
+    ensures near { AreLinear (length placing.old.columns.cols.now) (length_at C.length_of placing.old.columns.cols.now)
+        → StayNear C.reach_of C.length_of placing.old.columns force result.tight.natural result.tight.count
+        placing.new.at.now }
+    ensures placed { HavePlaced C.reach_of C.length_of placing.old.columns result placing.new.at.now
+        placing.new.front.now }
+    ensures place { HavePlace C.reach_of C.length_of placing.old.columns force
+        (take (length placing.old.columns.cols.now) placing.new.at.now) }
+    ensures small { (k : ℕ) → k < length placing.old.columns.cols.now
+        → (pos 0 ≤ℤ slice_index_or placing.new.at.now k (pos 0))
+        × (slice_index_or placing.new.at.now k (pos 0) ≤ℤ pos (2 ^ 48)) }
+{
+    let count = placing.columns.cols.len();
+    place_to(placing, force, count)
+}
+
+/// Places all columns at a force, none of which is placed.
+pub(crate) fn place_new<C: Spaced + Spring>(
     columns: SpacedColumns<'_, C>,
     force: u16,
     at: &mut [i64],
     front: &mut [i64],
-    placed: Progress,
-) -> Progress
-    requires few { length columns.cols.now ≤ 2 ^ 26 }
+)
     requires room { length columns.cols.now ≤ length at.old }
     requires one_each { length front.old ≡ length columns.gaps.list.now }
-    requires placed { HasPlaced (length columns.cols.now) (reach_at C.reach_of columns.cols.now) columns.gaps.list.now
-        (length_at C.length_of columns.cols.now) placed at.old front.old }
-    ensures few { result.tight.count ≤ 2 ^ 26 }
-    ensures natural { result.tight.natural ≤ 2 ^ 46 }
-    ensures near { AreLinear (length columns.entry.cols.now) (length_at C.length_of columns.entry.cols.now)
-        → IsNearLeast (length columns.entry.cols.now) (reach_at C.reach_of columns.entry.cols.now)
-        columns.entry.gaps.list.now (length_at C.length_of columns.entry.cols.now) force
-        result.tight.natural result.tight.count at.new }
-    ensures placed { HasPlaced (length columns.entry.cols.now) (reach_at C.reach_of columns.entry.cols.now)
-        columns.entry.gaps.list.now
-        (length_at C.length_of columns.entry.cols.now) result at.new front.new }
-    ensures place { IsPlace (length columns.entry.cols.now) (reach_at C.reach_of columns.entry.cols.now)
-        columns.entry.gaps.list.now
-        (length_at C.length_of columns.entry.cols.now force) (take (length columns.entry.cols.now) at.new) }
+    ensures place { HavePlace C.reach_of C.length_of columns.entry force (take (length columns.entry.cols.now) at.new) }
     ensures small { (k : ℕ) → k < length columns.entry.cols.now
         → (pos 0 ≤ℤ slice_index_or at.new k (pos 0)) × (slice_index_or at.new k (pos 0) ≤ℤ pos (2 ^ 48)) }
 {
-    place_to(columns, force, at, front, placed, columns.cols.len())
+    let mut placing = Placing {
+        columns,
+        at,
+        front,
+        progress: Progress::none(),
+    };
+    place_all(&mut placing, force);
 }
 
 /// Returns the columns that are placed at this force. If none is, places the first.
@@ -271,13 +285,10 @@ fn begun<C: Spaced + Spring>(
 ) -> Progress
     requires room { length columns.cols.now ≤ length at.old }
     requires one_each { length front.old ≡ length columns.gaps.list.now }
-    requires placed { HasPlaced (length columns.cols.now) (reach_at C.reach_of columns.cols.now) columns.gaps.list.now
-        (length_at C.length_of columns.cols.now) placed at.old front.old }
+    requires placed { HavePlaced C.reach_of C.length_of columns placed at.old front.old }
     ensures force { result.force ≡ force }
     ensures some { 0 < result.count }
-    ensures placed { HasPlaced (length columns.entry.cols.now) (reach_at C.reach_of columns.entry.cols.now)
-        columns.entry.gaps.list.now
-        (length_at C.length_of columns.entry.cols.now) result at.new front.new }
+    ensures placed { HavePlaced C.reach_of C.length_of columns.entry result at.new front.new }
 {
     if 0 < placed.count && placed.force == force {
         return placed;
@@ -296,48 +307,71 @@ fn begun<C: Spaced + Spring>(
     }
 }
 
-/// Places column j (j > 0), given the tight springs so far. Returns them, including the spring
-/// before column j if that spring alone determines its place.
-fn place_next<C: Spaced + Spring>(
+/// Places the columns that come after those of `begun`, up to `count` in all.
+fn place_on<C: Spaced + Spring>(
     columns: SpacedColumns<'_, C>,
-    force: u16,
     at: &mut [i64],
     front: &mut [i64],
-    j: usize,
-    tight: TightSprings,
-) -> TightSprings
-    requires few { length columns.cols.now ≤ 2 ^ 26 }
+    begun: Progress,
+    count: usize,
+) -> Progress
     requires room { length columns.cols.now ≤ length at.old }
     requires one_each { length front.old ≡ length columns.gaps.list.now }
-    requires past { 0 < j }
-    requires inside { j < length columns.cols.now }
-    requires tight { (tight.natural ≤ 1048576 * j) × (tight.count ≤ j) }
-    requires placed { IsPlacedTo j (reach_at C.reach_of columns.cols.now) columns.gaps.list.now
-        (length_at C.length_of columns.cols.now) force
-        tight.natural tight.count at.old }
-    requires fronts { AreFrontiers j (reach_at C.reach_of columns.cols.now) (length columns.gaps.list.now) at.old
-        front.old }
-    ensures tight { (result.natural ≤ 1048576 * (j + 1)) × (result.count ≤ j + 1) }
-    ensures placed { IsPlacedTo (j + 1) (reach_at C.reach_of columns.entry.cols.now) columns.entry.gaps.list.now
-        (length_at C.length_of columns.entry.cols.now) force
-        result.natural result.count at.new }
-    ensures fronts { AreFrontiers (j + 1) (reach_at C.reach_of columns.entry.cols.now)
-        (length columns.entry.gaps.list.now) at.new front.new }
+    requires some { 0 < begun.count }
+    requires within { count ≤ length columns.cols.now }
+    requires placed { HavePlaced C.reach_of C.length_of columns begun at.old front.old }
+    ensures force { result.force ≡ begun.force }
+    ensures some { 0 < result.count }
+    ensures count { count ≤ result.count }
+    ensures placed { HavePlaced C.reach_of C.length_of columns.entry result at.new front.new }
+{
+    let mut done = begun;
+    while done.count < count {
+        done = place_next(columns, at, front, done);
+    }
+    done
+}
+
+/// Places the next column at the force of those that are placed. Its tight springs include the
+/// spring before it if that spring alone determines its place.
+fn place_next<C: Spaced + Spring>(
+    columns: SpacedColumns<'_, C>,
+    at: &mut [i64],
+    front: &mut [i64],
+    done: Progress,
+) -> Progress
+    requires room { length columns.cols.now ≤ length at.old }
+    requires one_each { length front.old ≡ length columns.gaps.list.now }
+    requires some { 0 < done.count }
+    requires more { done.count < length columns.cols.now }
+    requires placed { HavePlaced C.reach_of C.length_of columns done at.old front.old }
+    ensures force { result.force ≡ done.force }
+    ensures count { result.count ≡ done.count + 1 }
+    ensures placed { HavePlaced C.reach_of C.length_of columns.entry result at.new front.new }
 {
     let SpacedColumns { cols, gaps, .. } = columns;
+    let Progress {
+        force,
+        count: j,
+        tight,
+    } = done;
     let before = at[j - 1];
     let natural = cols[j - 1].length(256);
     let spring = cols[j - 1].length(force);
     let next = set_past(&cols[j], gaps, after(before, spring), front);
     at[j] = next;
-    tightened(tight, before, spring, natural, next)
+    Progress {
+        force,
+        count: j + 1,
+        tight: tightened(tight, before, spring, natural, next),
+    }
 }
 
 /// Returns the tight springs, with the one that leads from `before` added if it ends at the next
 /// column.
 fn tightened(tight: TightSprings, before: i64, spring: u32, natural: u32, next: i64) -> TightSprings
     requires few { tight.count < 2 ^ 26 }
-    requires short { tight.natural ≤ 2 ^ 46 }
+    requires short { tight.natural + natural ≤ 2 ^ 46 }
     requires begins { pos 0 ≤ℤ before }
     requires small { before ≤ℤ pos (2 ^ 60) }
     ensures { (((before +ℤ pos spring) ≡ next)
@@ -391,6 +425,6 @@ pub fn place<'a, C: Spaced + Spring>(
         cols,
         gaps: Gaps { list: gaps },
     };
-    place_all(columns, force, &mut at, &mut front, Progress::none());
+    place_new(columns, force, &mut at, &mut front);
     Ok(Row { items: at })
 }

@@ -11,14 +11,16 @@ mod guesses;
 pub mod halves;
 pub mod least;
 pub mod margin;
+pub mod placing;
 pub mod progress;
 pub mod traits;
 
 pub use columns::{Gaps, SpacedColumns};
-pub use forces::{fit_within, longer_fits_less, most_columns, one_force};
+pub use forces::{longer_fits_less, most_columns, one_force};
 pub use halves::fit;
 pub use least::place;
-pub use margin::{Placed, justify};
+pub use margin::{Placed, justify, justify_columns};
+pub use placing::{Found, Placing};
 pub use progress::Progress;
 pub use traits::{
     LaneReach, LinearSpring, MOST_REACH, Reach, ReachView, Spaced, Spring, cut_reach, reach_in,

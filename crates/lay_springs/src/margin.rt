@@ -1,12 +1,11 @@
 ghost use Rattle.std.specs.Prelude.{◌≡◌, ◌+◌, ◌*◌, ◌^◌, ◌<◌, ◌≤◌, ◌-◌, ◌/◌, ℕ, ℤ, pos, ◌+ℤ◌, ◌≤ℤ◌, IfOk, length};
 ghost use Rattle.std.specs.Prelude.{slice_index, slice_index_or};
-ghost use Rattle.lay_springs.specs.{Fit.{IsEndOf, Fits, IsSet}, Justified.IsJustifiedAt};
-ghost use Rattle.lay_springs.specs.Place.{reach_at, length_at, StandApart};
+ghost use Rattle.lay_springs.specs.{Fit.{IsEndOf, Fits}, Justified.IsJustifiedAt, Place.{reach_at, length_at}};
+ghost use Rattle.lay_springs.specs.Spaced.{AreJustified, AreSetTo, FitAt, KeepApart};
 
 use crate::columns::{Gaps, SpacedColumns};
 use crate::forces::end_of;
-use crate::least::place_all;
-use crate::progress::Progress;
+use crate::least::place_new;
 use crate::traits::{Spaced, Spring};
 use mus_units::{Memory, Row};
 use std::alloc::Global;
@@ -71,20 +70,13 @@ fn set<C: Spaced + Spring>(
     at: &mut [i64],
     front: &mut [i64],
 )
-    requires few { length columns.cols.now ≤ 2 ^ 26 }
     requires room { length at.old ≡ length columns.cols.now }
     requires one_each { length front.old ≡ length columns.gaps.list.now }
-    requires fits { Fits (length columns.cols.now) (reach_at C.reach_of columns.cols.now) columns.gaps.list.now
-        (length_at C.length_of columns.cols.now)
-        width force }
-    ensures set { IsSet (length columns.entry.cols.now) (reach_at C.reach_of columns.entry.cols.now)
-        columns.entry.gaps.list.now (length_at C.length_of columns.entry.cols.now) width
-        force at.new }
-    ensures apart { StandApart (length columns.entry.cols.now) (reach_at C.reach_of columns.entry.cols.now)
-        columns.entry.gaps.list.now
-        (length_at C.length_of columns.entry.cols.now force) at.new }
+    requires fits { FitAt C.reach_of C.length_of columns width force }
+    ensures set { AreSetTo C.reach_of C.length_of columns.entry width force at.new }
+    ensures apart { KeepApart C.reach_of C.length_of columns.entry force at.new }
 {
-    place_all(columns, force, at, front, Progress::none());
+    place_new(columns, force, at, front);
     let cols = columns.cols;
     if cols.len() == 1 {
         return;
@@ -96,6 +88,35 @@ fn set<C: Spaced + Spring>(
 /// Sets the columns to the width, at a force at which they end within it: column k of n moves right
 /// by `rest * k / (n - 1)`, where `rest` is what the width leaves past the end. A last system at a
 /// force of 256 or more is ragged and stays as placed at 256.
+pub fn justify_columns<C: Spaced + Spring>(
+    alloc: Global,
+    columns: SpacedColumns<'_, C>,
+    width: u32,
+    force: u16,
+    last: bool,
+) -> Result<Placed, Memory>
+    requires fits { FitAt C.reach_of C.length_of columns width force }
+    ensures { IfOk result (AreJustified C.reach_of C.length_of columns.entry width last force) }
+{
+    let mut at = vec![in alloc; 0; columns.cols.len()]?;
+    let mut front = vec![in alloc; 0; columns.gaps.list.len()]?;
+    if last && force >= 256 {
+        place_new(columns, 256, &mut at, &mut front);
+        return Ok(Placed {
+            force: 256,
+            ragged: true,
+            at: Row { items: at },
+        });
+    }
+    set(columns, width, force, &mut at, &mut front);
+    Ok(Placed {
+        force,
+        ragged: false,
+        at: Row { items: at },
+    })
+}
+
+/// As `justify_columns`, for columns and the gap of each lane.
 pub fn justify<'a, C: Spaced + Spring>(
     alloc: Global,
     cols: &'a [C],
@@ -113,24 +134,9 @@ pub fn justify<'a, C: Spaced + Spring>(
     ensures { IfOk result (IsJustifiedAt (length cols.now) (reach_at C.reach_of cols.now) gaps.now
         (length_at C.length_of cols.now) width last force) }
 {
-    let mut at = vec![in alloc; 0; cols.len()]?;
-    let mut front = vec![in alloc; 0; gaps.len()]?;
     let columns = SpacedColumns {
         cols,
         gaps: Gaps { list: gaps },
     };
-    if last && force >= 256 {
-        place_all(columns, 256, &mut at, &mut front, Progress::none());
-        return Ok(Placed {
-            force: 256,
-            ragged: true,
-            at: Row { items: at },
-        });
-    }
-    set(columns, width, force, &mut at, &mut front);
-    Ok(Placed {
-        force,
-        ragged: false,
-        at: Row { items: at },
-    })
+    justify_columns(alloc, columns, width, force, last)
 }

@@ -1,4 +1,4 @@
-ghost use Rattle.std.specs.Prelude.{ℕ, ℤ, Option, List};
+ghost use Rattle.std.specs.Prelude.{◌≤◌, ◌^◌, ℕ, ℤ, Option, List};
 
 /// The tight springs, those that alone hold neighbors apart: the sum of their natural lengths, those
 /// at force 256, and their number.
@@ -6,6 +6,8 @@ ghost use Rattle.std.specs.Prelude.{ℕ, ℤ, Option, List};
 pub(crate) struct TightSprings {
     pub(crate) natural: u64,
     pub(crate) count: u64,
+    pub ghost short: { natural ≤ 2 ^ 46 },
+    pub ghost few: { count ≤ 2 ^ 26 },
 }
 
 /// How many columns, from the first on, are placed, at which force, and their tight springs.

@@ -12,6 +12,7 @@ use Rattle.lay_springs.specs.declared.margin.Placed.{Placed}
 use Rattle.lay_springs.specs.Place.{IsPlace, StandApart, length_at, reach_at}
 use Rattle.lay_springs.specs.Fit.{IsEndOf, IsSet, counted, is_ragged}
 use Rattle.lay_rows.specs.Costs.{force_in}
+use Rattle.lay_pages.specs.Distances.{tallest_block}
 use Rattle.lay_pages.specs.declared.stacking.Heights.{Heights}
 use Rattle.lay_pages.specs.Stacking.{AreStavesStacked}
 use Rattle.lay_tune.specs.Spans.{IsForceOf, IsSystemOf, column_length, score_gaps, system_columns}
@@ -68,7 +69,7 @@ gaps_between voices = map (λ v. v.gap) (filter (λ v. not (stands_lower v)) (dr
 pub record IsStack (s : Score) (m : SystemMarks) (h : Heights) : Type 0 where
   pub stacked : AreStavesStacked (pos 0) (gaps_between s.voices) m.staves h.bases (pos 0 -ℤ h.height)
   pub low : pos 0 ≤ℤ h.height
-  pub high : h.height ≤ℤ pos (2 ^ 40)
+  pub high : h.height ≤ℤ pos tallest_block
 
 -- Columns that can be placed, and whose greatest force this is.
 pub record HaveForce (gaps : List ℕ) (width force : ℕ) (columns : List Column) : Type 0 where

@@ -1,8 +1,5 @@
-ghost use Rattle.std.specs.Prelude.{◌≡◌, ◌<◌, ◌≤◌, All, IfErr, IfOk, length, map};
+ghost use Rattle.std.specs.Prelude.{◌≡◌, ◌<◌, ◌≤◌, IfErr, IfOk, length};
 ghost use Rattle.mus_score.specs.GoodScore.{IsGoodScore};
-ghost use Rattle.mus_onsets.specs.Onsets.{timeline_of};
-ghost use Rattle.mus_drawn.specs.Drawn.{drawn_voice};
-ghost use Rattle.mus_drawn.specs.Good.{AreGoodMeasures};
 ghost use Rattle.lay_reaches.specs.Columns.{column_reach};
 ghost use Rattle.lay_spans.specs.Columns.{AreMeasures};
 ghost use Rattle.lay_tune.specs.declared.layout.LayoutError.TheVariants as errors;
@@ -17,12 +14,11 @@ use lay_breaks::{BreakError, Breaking, Span};
 use lay_columns::{measures_join, staff_verses};
 use lay_pages::Heights;
 use lay_reaches::{Column, gaps_of};
-use lay_spans::{break_of, spans_of};
+use lay_spans::{SpanInput, break_of, spans_of};
 use lay_springs::Placed;
-use mus_drawn::DrawnVoice;
 use mus_laid::SystemMarks;
-use mus_marks::draw_voices;
-use mus_onsets::{Timeline, onsets};
+use mus_marks::{DrawnScore, draw_voices};
+use mus_onsets::onsets;
 use mus_score::Score;
 use mus_units::{Memory, Row};
 use std::alloc::Global;
@@ -71,29 +67,26 @@ fn lay_out_measures<R: Threads + Sync>(
     rt: &R,
     alloc: Global,
     measured: &Measured<'_>,
-    voices: &[DrawnVoice<'_>],
     jobs: Jobs,
 ) -> Result<Layout, LayoutError>
-    requires measured { IsMeasured measured.now }
-    requires voices { voices.now ≡ map drawn_voice measured.now.score.now.voices }
-    requires drawn { All (λ v. AreGoodMeasures v.measures) voices.now }
-    ensures layout { IfOk result (IsLayout measured.now.score.now measured.now.width) }
-    ensures no_way { IfErr result (IsCauseIn measured.now.score.now measured.now.width) }
+    requires { IsMeasured measured.now }
+    ensures layout { IfOk result (IsLayout measured.now.drawn.score.now measured.now.width) }
+    ensures no_way { IfErr result (IsCauseIn measured.now.drawn.score.now measured.now.width) }
 {
-    let Measured {
-        score,
-        measures,
-        width,
-        ..
-    } = *measured;
+    let score = measured.drawn.score;
     let forced = score.forced.as_slice();
-    let spans = spans_of(rt, alloc, measures, width, forced, jobs)?;
+    let input = SpanInput {
+        measures: measured.measures,
+        width: measured.width,
+        forced,
+    };
+    let spans = spans_of(rt, alloc, &input, jobs)?;
     let breaking = match break_of(alloc, &spans, forced, score.measures) {
         Ok(breaking) => breaking,
         Err(error) => return Err(layout_error(error)),
     };
     let breaks = breaking.breaks.as_slice();
-    let set = set_systems(alloc, measured, voices, breaks, &spans.rows)?;
+    let set = set_systems(alloc, measured, breaks, &spans.rows)?;
     Ok(Layout {
         breaking,
         systems: set.marks,
@@ -124,12 +117,16 @@ pub fn lay_out<R: Threads + Sync>(
     ensures layout { IfOk result (IsLayout s.now width) }
     ensures no_way { IfErr result (IsCauseIn s.now width) }
 {
-    let t = onsets(alloc, s)?;
-    let drawn = draw_voices(alloc, s)?;
-    let voices = drawn.as_slice();
-    let counts = staff_verses(alloc, voices)?;
+    let times = onsets(alloc, s)?;
+    let voices = draw_voices(alloc, s)?;
+    let drawn = DrawnScore {
+        score: s,
+        times: &times,
+        voices: voices.as_slice(),
+    };
+    let counts = staff_verses(alloc, &drawn)?;
     let verses = counts.as_slice();
-    let columns = columns_of_measures(alloc, s, voices, &t, verses)?;
+    let columns = columns_of_measures(alloc, &drawn, verses)?;
     let further = others_of(alloc, s, &columns)?;
     let gaps = gaps_of(alloc, verses)?;
     let starts = columns.starts.as_slice();
@@ -137,11 +134,10 @@ pub fn lay_out<R: Threads + Sync>(
     let list = gaps.as_slice();
     let measures = measures_in(starts, others, list);
     let measured = Measured {
-        score: s,
-        times: &t,
+        drawn,
         measures: &measures,
         width,
     };
     measures_join();
-    lay_out_measures(rt, alloc, &measured, voices, jobs)
+    lay_out_measures(rt, alloc, &measured, jobs)
 }

@@ -1,8 +1,5 @@
-ghost use Rattle.std.specs.Prelude.{◌≡◌, ◌≤◌, ◌<◌, ◌^◌, ◌-◌, ℕ, All, IfOk, length, map, slice_index};
+ghost use Rattle.std.specs.Prelude.{◌≡◌, ◌≤◌, ◌<◌, ◌^◌, ◌-◌, ℕ, IfOk, length, slice_index};
 ghost use Rattle.mus_score.specs.GoodScore.{IsGoodScore};
-ghost use Rattle.mus_onsets.specs.Onsets.{timeline_of};
-ghost use Rattle.mus_drawn.specs.Drawn.{drawn_voice};
-ghost use Rattle.mus_drawn.specs.Good.{AreGoodMeasures};
 ghost use Rattle.{lay_reaches.specs.Columns.{column_reach}, lay_spans.specs.Columns.{AreMeasures}};
 ghost use Rattle.lay_tune.specs.{Measures.{EachFurther, EachMeasure, IsMeasure}, Spans.verses_of};
 
@@ -10,8 +7,7 @@ use lay_columns::{further_columns, further_of, measure_columns};
 use lay_reaches::Column;
 use lay_spans::{BorrowedColumns, Measures};
 use lay_springs::Gaps;
-use mus_drawn::DrawnVoice;
-use mus_onsets::Timeline;
+use mus_marks::DrawnScore;
 use mus_score::Score;
 use mus_units::{Memory, Row};
 use std::alloc::Global;
@@ -24,29 +20,24 @@ pub(crate) struct MeasureColumns {
     pub(crate) own: Row<Option<Row<Column>>>,
 }
 
-/// Returns the columns of all measures.
+/// Returns the columns of all measures of a drawn score.
 pub(crate) fn columns_of_measures(
     alloc: Global,
-    s: &Score,
-    voices: &[DrawnVoice<'_>],
-    t: &Timeline,
+    drawn: &DrawnScore<'_>,
     verses: &[u8],
 ) -> Result<MeasureColumns, Memory>
-    requires good { IsGoodScore s.now }
-    requires times { t.now ≡ timeline_of s.now }
-    requires voices { voices.now ≡ map drawn_voice s.now.voices }
-    requires drawn { All (λ v. AreGoodMeasures v.measures) voices.now }
-    requires verses { verses.now ≡ verses_of s.now }
-    requires heard { 0 < s.now.measures → 1 ≤ length s.now.voices }
-    ensures starts { IfOk result (λ r. EachMeasure (λ m. IsMeasure s.now m m) s.now.measures r.starts) }
-    ensures own { IfOk result (λ r. EachFurther s.now s.now.measures r.own) }
+    requires verses { verses.now ≡ verses_of drawn.now.score.now }
+    requires heard { 0 < drawn.now.score.now.measures → 1 ≤ length drawn.now.score.now.voices }
+    ensures starts { IfOk result (λ r.
+        EachMeasure (λ m. IsMeasure drawn.now.score.now m m) drawn.now.score.now.measures r.starts) }
+    ensures own { IfOk result (λ r. EachFurther drawn.now.score.now drawn.now.score.now.measures r.own) }
 {
-    let measures = s.measures as usize;
+    let measures = drawn.score.measures as usize;
     let mut starts = Row::with_room(alloc, measures)?;
     let mut own = Row::with_room(alloc, measures)?;
-    for m in 0..s.measures {
-        let begun = measure_columns(alloc, s, voices, t, m, m, verses)?;
-        let further = further_columns(alloc, s, voices, t, m, verses)?;
+    for m in 0..drawn.score.measures {
+        let begun = measure_columns(alloc, drawn, m, m, verses)?;
+        let further = further_columns(alloc, drawn, m, verses)?;
         starts.push(begun)?;
         own.push(further)?;
     }

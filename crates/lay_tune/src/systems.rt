@@ -1,6 +1,6 @@
 ghost use Rattle.std.specs.Prelude.{◌≡◌, ◌+◌, ◌<◌, ◌≤◌, ◌^◌, ◌==◌, ℕ, All, IfOk, length, map, slice_index};
 ghost use Rattle.std.specs.List.{AllZip};
-ghost use Rattle.{mus_drawn.specs.{Drawn.drawn_voice, Good.AreGoodMeasures}, mus_laid.specs.Boxes.{AreGoodMarks}};
+ghost use Rattle.mus_laid.specs.Boxes.{AreGoodMarks};
 ghost use Rattle.lay_tune.specs.Measured.{IsMeasured};
 ghost use Rattle.lay_tune.specs.Systems.{AllSpans, CanBeSet, EachSpan, HaveForce, IsJustified, IsSetSystem};
 ghost use Rattle.lay_tune.specs.Systems.{IsStack};
@@ -10,20 +10,17 @@ use lay_pages::{Heights, stack};
 use lay_reaches::Column;
 use lay_rows::Rows;
 use lay_spans::{BorrowedColumn, Measures, columns_in};
-use lay_springs::{Gaps, Placed, justify};
-use mus_drawn::DrawnVoice;
+use lay_springs::{Placed, SpacedColumns, justify_columns};
 use mus_laid::SystemMarks;
-use mus_marks::tilt_of;
-use mus_onsets::{ColumnKey, Timeline};
-use mus_score::Score;
+use mus_marks::{DrawnScore, tilt_of};
+use mus_onsets::ColumnKey;
 use mus_units::{Memory, Row};
 use std::alloc::Global;
 
-/// A score and what its systems are set by: its times, its measures and the width, in u.
+/// A drawn score and what its systems are set by: its measures and the width, in u.
 #[derive(Drop)]
 pub(crate) struct Measured<'a> {
-    pub(crate) score: &'a Score,
-    pub(crate) times: &'a Timeline,
+    pub(crate) drawn: DrawnScore<'a>,
     pub(crate) measures: &'a Measures<'a, Column>,
     pub(crate) width: u32,
 }
@@ -31,16 +28,21 @@ pub(crate) struct Measured<'a> {
 /// Returns the columns placed at their greatest force and set to the width.
 fn press(
     alloc: Global,
-    columns: &[BorrowedColumn<Column>],
-    gaps: Gaps<'_>,
-    width: u32,
-    last: bool,
+    measured: &Measured<'_>,
+    cols: &[BorrowedColumn<Column>],
     force: u16,
+    last: bool,
 ) -> Result<Placed, Memory>
-    requires fits { HaveForce gaps.list.now width force (map (λ s. s.column.now) columns.now) }
-    ensures { IfOk result (IsJustified gaps.entry.list.now width last (map (λ s. s.column.now) columns.now)) }
+    requires fits { HaveForce measured.now.measures.now.gaps.list.now measured.now.width force
+        (map (λ s. s.column.now) cols.now) }
+    ensures { IfOk result (IsJustified measured.now.measures.now.gaps.list.now measured.now.width last
+        (map (λ s. s.column.now) cols.now)) }
 {
-    justify(alloc, columns, gaps.list, width, force, last)
+    let columns = SpacedColumns {
+        cols,
+        gaps: measured.measures.gaps,
+    };
+    justify_columns(alloc, columns, measured.width, force, last)
 }
 
 /// Returns the keys of columns.
@@ -66,38 +68,28 @@ struct SetSystem {
 fn set_system(
     alloc: Global,
     measured: &Measured<'_>,
-    voices: &[DrawnVoice<'_>],
     a: u32,
     b: u32,
     rows: &Rows,
 ) -> Result<SetSystem, Memory>
     requires measured { IsMeasured measured.now }
-    requires voices { voices.now ≡ map drawn_voice measured.now.score.now.voices }
-    requires drawn { All (λ v. AreGoodMeasures v.measures) voices.now }
-    requires fits { CanBeSet measured.now.score.now measured.now.width rows.now.rows a b }
+    requires fits { CanBeSet measured.now.drawn.score.now measured.now.width rows.now.rows a b }
     ensures system { IfOk result
-        (λ set. IsSetSystem measured.now.score.now measured.now.width a b set.marks set.placed) }
-    ensures heights { IfOk result (λ set. IsStack measured.now.score.now set.marks set.heights) }
+        (λ set. IsSetSystem measured.now.drawn.score.now measured.now.width a b set.marks set.placed) }
+    ensures heights { IfOk result (λ set. IsStack measured.now.drawn.score.now set.marks set.heights) }
     ensures good { IfOk result (λ set. All (λ staff. AreGoodMarks staff.marks) set.marks.staves) }
 {
     let Some(force) = rows.force(a, b) else {
         unreachable!();
     };
-    let score = measured.score;
+    let score = measured.drawn.score;
     let seen = columns_in(alloc, measured.measures, a as usize, b as usize)?;
     let columns = seen.as_slice();
     let last = b == score.measures;
-    let placed = press(
-        alloc,
-        columns,
-        measured.measures.gaps,
-        measured.width,
-        last,
-        force,
-    )?;
+    let placed = press(alloc, measured, columns, force, last)?;
     let keys = keys_in(alloc, columns)?;
     let at = placed.at.as_slice();
-    let marks = tilt_of(alloc, score, voices, measured.times, a, b, keys, at)?;
+    let marks = tilt_of(alloc, &measured.drawn, a, b, keys, at)?;
     let between = gaps_between(alloc, score.voices.as_slice())?;
     let heights = stack(alloc, &marks, between.as_slice())?;
     Ok(SetSystem {
@@ -120,17 +112,14 @@ pub(crate) struct Systems {
 pub(crate) fn set_systems(
     alloc: Global,
     measured: &Measured<'_>,
-    voices: &[DrawnVoice<'_>],
     breaks: &[u32],
     rows: &Rows,
 ) -> Result<Systems, Memory>
     requires measured { IsMeasured measured.now }
-    requires voices { voices.now ≡ map drawn_voice measured.now.score.now.voices }
-    requires drawn { All (λ v. AreGoodMeasures v.measures) voices.now }
-    requires fits { AllSpans (CanBeSet measured.now.score.now measured.now.width rows.now.rows) 0 breaks.now }
+    requires fits { AllSpans (CanBeSet measured.now.drawn.score.now measured.now.width rows.now.rows) 0 breaks.now }
     ensures systems { IfOk result
-        (λ r. EachSpan (IsSetSystem measured.now.score.now measured.now.width) 0 breaks.now r.marks r.placed) }
-    ensures heights { IfOk result (λ r. AllZip (IsStack measured.now.score.now) r.marks r.heights) }
+        (λ r. EachSpan (IsSetSystem measured.now.drawn.score.now measured.now.width) 0 breaks.now r.marks r.placed) }
+    ensures heights { IfOk result (λ r. AllZip (IsStack measured.now.drawn.score.now) r.marks r.heights) }
     ensures good { IfOk result (λ r. All (λ m. All (λ staff. AreGoodMarks staff.marks) m.staves) r.marks) }
 {
     let mut marks = Row::with_room(alloc, breaks.len())?;
@@ -138,7 +127,7 @@ pub(crate) fn set_systems(
     let mut heights = Row::with_room(alloc, breaks.len())?;
     let mut a = 0;
     for b in breaks {
-        let set = set_system(alloc, measured, voices, a, *b, rows)?;
+        let set = set_system(alloc, measured, a, *b, rows)?;
         marks.push(set.marks)?;
         placed.push(set.placed)?;
         heights.push(set.heights)?;

@@ -22,11 +22,15 @@ impl RowMaker for MeetingRows {
 
     ghost is_row = { λ _ a row. row ≡ a ∷ [] };
 
-    fn forces_from(&self, a: u32) -> Result<Row<u16>, Memory> {
-        self.meeting.wait(a as usize);
-        let mut row = Row::new(self.alloc);
-        row.push(a as u16)?;
-        Ok(row)
+    fn rows_between(&self, from: u32, to: u32) -> Result<Row<Row<u16>>, Memory> {
+        let mut rows = Row::new(self.alloc);
+        for a in from..to {
+            self.meeting.wait(a as usize);
+            let mut row = Row::new(self.alloc);
+            row.push(a as u16)?;
+            rows.push(row)?;
+        }
+        Ok(rows)
     }
 
     ghost is_one = { λ _ a row other _ h k. one_row a row other h k };

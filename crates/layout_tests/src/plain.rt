@@ -7,7 +7,7 @@ use case_texts::{Case, CaseError, Mistake, Report, count_at, number_at, numbers_
 use lay_reaches::Column;
 use lay_rows::badness;
 use lay_springs::{
-    Gaps, Progress, Reach, Spaced, SpacedColumns, Spring, fit, fit_within, justify, place,
+    Gaps, Placing, Progress, Reach, Spaced, SpacedColumns, Spring, fit, justify, place,
 };
 use mus_onsets::{Class, ColumnKey};
 use mus_units::Row;
@@ -89,13 +89,18 @@ fn put_within(out: &mut Report, columns: &[Column], width: u32, most: u32) -> Re
     let most = u16::try_from(most).unwrap_or(0).min(2048);
     let mut at = vec![in out.alloc; 0i64; columns.len()]?;
     let front = &mut [0i64; 2];
-    let mut placed = Progress::none();
     let columns = SpacedColumns {
         cols: columns,
         gaps: Gaps { list: &GAPS },
     };
-    let force = fit_within(columns, width, most, &mut at, front, &mut placed);
-    put_force(out, force)
+    let mut placing = Placing {
+        columns,
+        at: &mut at,
+        front,
+        progress: Progress::none(),
+    };
+    let found = placing.search_within(width, most);
+    put_force(out, found.force)
 }
 
 /// Adds columns set to a width.

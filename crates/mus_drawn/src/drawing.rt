@@ -52,7 +52,7 @@ pub fn raise_of(seat: Seat) -> i32
     }
 }
 
-/// Adds a drawn event. `now` is what is in force before it, and on return after it.
+/// Returns a drawn event. `now` is what is in force before it, and on return after it.
 fn draw_event<'a>(
     alloc: Global,
     style: Style,
@@ -60,14 +60,13 @@ fn draw_event<'a>(
     now: &mut StaffState,
     flat: Flat<'a>,
     plan: StemPlan,
-    out: &mut Row<DrawnEvent<'a>>,
-) -> Result<(), Memory>
-    ensures event { OnOk result (out.new ≡ out.old ++ drawn_event style tick now.old flat.entry plan ∷ []) }
+) -> Result<DrawnEvent<'a>, Memory>
+    ensures event { IfOk result (λ d. d ≡ drawn_event style tick now.old flat.entry plan) }
     ensures now { OnOk result (now.new ≡ standing_after now.old flat.entry.event.changes) }
 {
     let old = old_signs(alloc, &now.key, &flat.event().changes.key)?;
     change(alloc, now, &flat.event().changes)?;
-    out.push(DrawnEvent {
+    Ok(DrawnEvent {
         seat: style.seat,
         tick,
         clef: now.clef,
@@ -98,7 +97,7 @@ fn draw_events<'a>(
             return Ok(out);
         };
         let duration = flat.duration;
-        draw_event(alloc, style, tick, now, flat, plan, &mut out)?;
+        out.push(draw_event(alloc, style, tick, now, flat, plan)?)?;
         tick += duration;
     }
     Ok(out)

@@ -35,6 +35,13 @@ pub struct AlteredHead {
     pub alter: Alter,
 }
 
+/// What is carried along a voice while its heads are heard: what is in force, and the heads of the last event.
+#[derive(Drop)]
+pub struct HearingState {
+    pub now: StaffState,
+    pub before: Row<AlteredHead>,
+}
+
 /// Returns whether a head has this letter and octave.
 fn has_pitch(pitch: Pitch, head: Head) -> bool
     ensures { result ≡ has_pitch pitch head }
@@ -199,27 +206,29 @@ fn hear_event(
     )
 }
 
-/// Adds the sounds of the heads of a measure's events. `now` is what is in force before the events, and `before` has
-/// the heads of the event before them; on return both are updated to what holds after the events.
+/// Adds the sounds of the heads of a measure's events. `state` is what holds before the events, and on return after
+/// them.
 fn put_events(
     alloc: Global,
     out: &mut Row<Sound>,
     voice: u32,
     spread: Spread,
-    now: &mut StaffState,
-    before: &mut Row<AlteredHead>,
+    state: &mut HearingState,
     flats: &[Flat<'_>],
 ) -> Result<(), Memory>
     requires { All (λ f. length f.event.heads ≤ head_limit) flats.now }
-    ensures sounds { OnOk result (out.new ≡ out.old ++ events_sounds voice spread now.old [] before.old flats.now) }
-    ensures now { OnOk result (now.new ≡ staff_state_after now.old flats.now) }
-    ensures before { OnOk result (before.new ≡ heard_after spread now.old [] before.old flats.now) }
+    ensures sounds { OnOk result
+        (out.new ≡ out.old ++ events_sounds voice spread state.old.now [] state.old.before flats.now) }
+    ensures now { OnOk result (state.new.now ≡ staff_state_after state.old.now flats.now) }
+    ensures before { OnOk result
+        (state.new.before ≡ heard_after spread state.old.now [] state.old.before flats.now) }
 {
     let mut said = Row::new(alloc);
     for flat in flats {
-        let heads = hear_event(alloc, spread, now, before.as_slice(), &mut said, flat)?;
+        let before = state.before.as_slice();
+        let heads = hear_event(alloc, spread, &mut state.now, before, &mut said, flat)?;
         put_sounds(out, voice, flat.event().id, heads.as_slice())?;
-        *before = heads;
+        state.before = heads;
     }
     Ok(())
 }
@@ -229,18 +238,18 @@ fn put_body(
     out: &mut Row<Sound>,
     voice: u32,
     spread: Spread,
-    now: &mut StaffState,
-    before: &mut Row<AlteredHead>,
+    state: &mut HearingState,
     body: &[Music],
 ) -> Result<(), Memory>
     requires { IsGoodBody body.now }
     ensures sounds { OnOk result
-        (out.new ≡ out.old ++ events_sounds voice spread now.old [] before.old (flats_of body.now)) }
-    ensures now { OnOk result (now.new ≡ staff_state_after now.old (flats_of body.now)) }
-    ensures before { OnOk result (before.new ≡ heard_after spread now.old [] before.old (flats_of body.now)) }
+        (out.new ≡ out.old ++ events_sounds voice spread state.old.now [] state.old.before (flats_of body.now)) }
+    ensures now { OnOk result (state.new.now ≡ staff_state_after state.old.now (flats_of body.now)) }
+    ensures before { OnOk result
+        (state.new.before ≡ heard_after spread state.old.now [] state.old.before (flats_of body.now)) }
 {
     let flats = flatten(alloc, body)?;
-    put_events(alloc, out, voice, spread, now, before, flats.as_slice())
+    put_events(alloc, out, voice, spread, state, flats.as_slice())
 }
 
 fn put_measures(
@@ -254,18 +263,11 @@ fn put_measures(
     requires { All (λ m. IsGoodBody m.body) measures.now }
     ensures { OnOk result (out.new ≡ out.old ++ measures_sounds voice spread now [] measures.now) }
 {
-    let mut now = now;
-    let mut before = Row::new(alloc);
+    let before = Row::new(alloc);
+    let mut state = HearingState { now, before };
     for m in measures {
-        put_body(
-            alloc,
-            out,
-            voice,
-            spread,
-            &mut now,
-            &mut before,
-            m.body.as_slice(),
-        )?;
+        let body = m.body.as_slice();
+        put_body(alloc, out, voice, spread, &mut state, body)?;
     }
     Ok(())
 }

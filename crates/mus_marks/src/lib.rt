@@ -14,7 +14,7 @@ pub use events::{WordsAt, changes_nothing};
 pub use measures::put_own_voice;
 pub use mus_drawn::{Sound, sounding};
 pub use mus_laid::{Laid, Lane, Mark, Size, StaffMarks, SystemMarks, Way};
-pub use mus_time::draw_voices;
+pub use mus_time::{DrawnScore, draw_voices};
 pub use staves::{lower_count, verses_on};
 pub use systems::{marks, marks_of};
 pub use tilting::{tilt, tilt_of};

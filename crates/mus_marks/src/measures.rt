@@ -1,6 +1,6 @@
 ghost use Rattle.mus_score.specs.Limits.{measure_limit};
 ghost use Rattle.std.specs.Prelude.{◌≡◌, ◌≤◌, ◌<◌, ◌+◌, ◌++◌, length, None, OnOk};
-ghost use Rattle.{mus_onsets.specs.{Keys.has_features, Ranks.AreRanked}, mus_drawn.specs.Good.{AreGoodMeasures}};
+ghost use Rattle.{mus_onsets.specs.Ranks.{AreRanked}, mus_drawn.specs.Good.{AreGoodMeasures}};
 ghost use Rattle.mus_bridges.specs.Ends.{measure_ended, over, voice_ended};
 ghost use Rattle.mus_slots.specs.Staff.{slots_laid};
 ghost use Rattle.mus_slots.specs.Voice.{bar_slots, first_slots, head_slots, measures_slots, meter_shown, range_slots};
@@ -10,7 +10,7 @@ use mus_bridges::{EndedEvents, ends_at};
 use mus_drawn::{DrawnMeasure, DrawnVoice, SystemOpening};
 use mus_ink::{put_bar, put_head};
 use mus_laid::MarkPen;
-use mus_onsets::{Class, ColumnKey};
+use mus_onsets::{Class, ColumnKey, has_features};
 use mus_score::Seat;
 use mus_time::SystemFrame;
 use mus_units::{Bar, Memory, Meter, Row};
@@ -115,12 +115,6 @@ fn put_head_part(
     put_head(pen, opening.clef, signs, meter)
 }
 
-fn is_featured(bar: Bar) -> bool
-    ensures { result ≡ has_features bar }
-{
-    bar.end || bar.start || bar.last || bar.initial || bar.double || bar.dotted || bar.unseen
-}
-
 /// Draws the bar before the first measure if it has features, unless the voice above draws it.
 fn put_first_part(
     pen: &mut MarkPen,
@@ -132,7 +126,7 @@ fn put_first_part(
     requires { AreRanked keys.now }
     ensures { OnOk result (pen.new.marks ≡ pen.old.marks ++ slots_laid keys.now None (first_slots a seat bar)) }
 {
-    if seat.is_lower() || a != 0 || !is_featured(bar) {
+    if seat.is_lower() || a != 0 || !has_features(bar) {
         return Ok(());
     }
     pen.go_to(keys, ColumnKey::new(0, 0, Class::First, 0));

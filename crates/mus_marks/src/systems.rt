@@ -1,49 +1,40 @@
-ghost use Rattle.std.specs.Prelude.{◌≡◌, ◌≤◌, ◌<◌, map, All, IfOk};
+ghost use Rattle.std.specs.Prelude.{◌≡◌, ◌≤◌, ◌<◌, All, IfOk};
 ghost use Rattle.mus_score.specs.GoodScore.{IsGoodScore};
 ghost use Rattle.mus_onsets.specs.Keys.{IsInSystem};
 ghost use Rattle.mus_onsets.specs.Onsets.{timeline_of};
-ghost use Rattle.mus_drawn.specs.Drawn.{drawn_voice};
-ghost use Rattle.mus_drawn.specs.Good.{AreGoodMeasures};
 ghost use Rattle.{mus_laid.specs.Boxes.{AreGoodMarks}, mus_marks.specs.{Staff.CoversLines, System.IsCall}};
 
 use crate::staves::staves;
-use mus_drawn::DrawnVoice;
 use mus_laid::SystemMarks;
 use mus_onsets::Timeline;
 use mus_score::Score;
-use mus_time::{SystemFrame, draw_voices, system_keys};
+use mus_time::{DrawnScore, SystemFrame, draw_voices, system_keys};
 use mus_units::{Memory, Row};
 use std::alloc::Global;
 
-/// Returns the marks of the system of measures `a` to `b` - 1, like `marks`, from the voices of the score as already
-/// drawn. The only error is out of memory.
+/// Returns the marks of the system of measures `a` to `b` - 1 of a drawn score, like `marks`. The only error is out of
+/// memory.
 pub fn marks_of(
     alloc: Global,
-    s: &Score,
-    voices: &[DrawnVoice<'_>],
-    t: &Timeline,
+    drawn: &DrawnScore<'_>,
     a: u32,
     b: u32,
 ) -> Result<SystemMarks, Memory>
-    requires good { IsGoodScore s.now }
-    requires times { t.now ≡ timeline_of s.now }
     requires order { a < b }
-    requires within { b ≤ s.now.measures }
-    requires voices { voices.now ≡ map drawn_voice s.now.voices }
-    requires drawn { All (λ v. AreGoodMeasures v.measures) voices.now }
-    ensures call { IfOk result (IsCall s.now t.now a b) }
-    ensures places { IfOk result (λ m. All (IsInSystem t.now.lengths a b) m.keys) }
+    requires within { b ≤ drawn.now.score.now.measures }
+    ensures call { IfOk result (IsCall drawn.now.score.now drawn.now.times.now a b) }
+    ensures places { IfOk result (λ m. All (IsInSystem drawn.now.times.now.lengths a b) m.keys) }
     ensures lines { IfOk result (λ m. All CoversLines m.staves) }
     ensures good { IfOk result (λ m. All (λ staff. AreGoodMarks staff.marks) m.staves) }
 {
-    let keys = system_keys(alloc, s, voices, t, a, b)?;
+    let keys = system_keys(alloc, drawn, a, b)?;
     let frame = SystemFrame {
         keys: keys.as_slice(),
-        lengths: t.lengths.as_slice(),
+        lengths: drawn.times.lengths.as_slice(),
         a,
         b,
     };
-    let staves = staves(alloc, &frame, &[], voices)?;
+    let staves = staves(alloc, &frame, &[], drawn.voices)?;
     Ok(SystemMarks { a, b, keys, staves })
 }
 
@@ -66,5 +57,10 @@ pub fn marks(alloc: Global, s: &Score, t: &Timeline, a: u32, b: u32) -> Result<S
     ensures good { IfOk result (λ m. All (λ staff. AreGoodMarks staff.marks) m.staves) }
 {
     let voices = draw_voices(alloc, s)?;
-    marks_of(alloc, s, voices.as_slice(), t, a, b)
+    let drawn = DrawnScore {
+        score: s,
+        times: t,
+        voices: voices.as_slice(),
+    };
+    marks_of(alloc, &drawn, a, b)
 }

@@ -4,8 +4,7 @@ ghost use Rattle.mus_score.specs.GoodScore.{IsGoodScore};
 ghost use Rattle.mus_score.specs.Seats.{grouped};
 ghost use Rattle.mus_onsets.specs.Keys.{AreKeys, IsInSystem, called_keys};
 ghost use Rattle.mus_onsets.specs.Onsets.{timeline_of};
-ghost use Rattle.mus_onsets.specs.Ranks.{AreRanked};
-ghost use Rattle.mus_drawn.specs.Drawn.{drawn_voice};
+ghost use Rattle.{mus_onsets.specs.Ranks.{AreRanked}, mus_time.specs.Frame.{ranked_prop}};
 ghost use Rattle.mus_drawn.specs.Good.{AreGoodMeasures};
 ghost use Rattle.mus_stems.specs.Slope.{slope_input};
 ghost use Rattle.mus_laid.specs.Boxes.{AreGoodMarks};
@@ -22,7 +21,7 @@ use mus_laid::{StaffMarks, SystemMarks};
 use mus_onsets::{ColumnKey, Timeline, next_rank};
 use mus_score::Score;
 use mus_stems::{SlopeInput, ends_for};
-use mus_time::{SystemFrame, draw_voices, note_key, system_keys};
+use mus_time::{DrawnScore, SystemFrame, draw_voices, note_key, system_keys};
 use mus_units::{Memory, Row};
 use std::alloc::Global;
 
@@ -42,25 +41,32 @@ fn anchor_at(at: &[i64], rank: u32, e: &DrawnEvent<'_>) -> SlopeInput
     }
 }
 
+/// The columns of a system by their keys, and the abscissas at which they are placed.
+#[derive(Clone, Copy)]
+struct PlacedColumns<'a> {
+    keys: &'a [ColumnKey],
+    at: &'a [i64],
+    ghost ranked: { AreRanked keys.now } by { ranked_prop keys.now },
+}
+
 /// Returns the ends of the events of a measure on the lines of their beams; `anchors` is working space.
 fn ends_over(
     alloc: Global,
     anchors: &mut Row<SlopeInput>,
-    keys: &[ColumnKey],
+    columns: PlacedColumns<'_>,
     near: &mut usize,
-    at: &[i64],
     measure: u32,
     d: &DrawnMeasure<'_>,
 ) -> Result<Row<i32>, Memory>
-    requires keys { AreRanked keys.now }
-    requires slopes { CanTilt keys.now at.now measure d.now }
-    ensures { IfOk result (λ r. r ≡ ends_over keys.now at.now measure d.now.events) }
+    requires { CanTilt columns.keys.now columns.at.now measure d.now }
+    ensures { IfOk result
+        (λ r. r ≡ ends_over columns.entry.keys.now columns.entry.at.now measure d.now.events) }
 {
     let events = d.events.as_slice();
     anchors.items.clear();
     for e in events {
-        let rank = next_rank(keys, near, note_key(measure, e));
-        anchors.push(anchor_at(at, rank, e))?;
+        let rank = next_rank(columns.keys, near, note_key(measure, e));
+        anchors.push(anchor_at(columns.at, rank, e))?;
     }
     ends_for(alloc, anchors.as_slice())
 }
@@ -68,22 +74,19 @@ fn ends_over(
 /// Returns the ends of the events of measures, from number `a` on, on the lines of their beams.
 fn sloped_over(
     alloc: Global,
-    keys: &[ColumnKey],
-    at: &[i64],
+    columns: PlacedColumns<'_>,
     a: u32,
     measures: &[DrawnMeasure<'_>],
 ) -> Result<Row<Row<i32>>, Memory>
-    requires keys { AreRanked keys.now }
-    requires slopes { AllCanTilt keys.now at.now a measures.now }
+    requires slopes { AllCanTilt columns.keys.now columns.at.now a measures.now }
     requires few { a + length measures.now ≤ measure_limit }
-    ensures { IfOk result (λ r. r ≡ sloped_over keys.now at.now a measures.now) }
+    ensures { IfOk result (λ r. r ≡ sloped_over columns.entry.keys.now columns.entry.at.now a measures.now) }
 {
     let mut ends = Row::with_room(alloc, measures.len())?;
     let mut anchors = Row::with_room(alloc, EVENTS_OF_MEASURE)?;
     let (mut measure, mut near) = (a, 0);
     for d in measures {
-        let own = ends_over(alloc, &mut anchors, keys, &mut near, at, measure, d)?;
-        ends.push(own)?;
+        ends.push(ends_over(alloc, &mut anchors, columns, &mut near, measure, d)?)?;
         measure += 1;
     }
     Ok(ends)
@@ -105,10 +108,14 @@ fn sloped_voices(
         ≡ map (λ v. sloped_over frame.now.keys.now at.now frame.now.a (slice_range v.measures frame.now.a frame.now.b))
         voices.now) }
 {
+    let columns = PlacedColumns {
+        keys: frame.keys,
+        at,
+    };
     let mut ends = Row::with_room(alloc, voices.len())?;
     for v in voices {
         let measures = &v.measures.as_slice()[frame.a as usize..frame.b as usize];
-        ends.push(sloped_over(alloc, frame.keys, at, frame.a, measures)?)?;
+        ends.push(sloped_over(alloc, columns, frame.a, measures)?)?;
     }
     Ok(ends)
 }
@@ -140,39 +147,34 @@ fn tilted_staves(
     staves(alloc, frame, ends.as_slice(), voices)
 }
 
-/// Returns the marks of the system of measures `a` to `b` - 1 over the abscissas of its columns, whose keys are
-/// `keys`, like `tilt`, from the voices of the score as already drawn. The only error is out of memory.
+/// Returns the marks of the system of measures `a` to `b` - 1 of a drawn score over the abscissas of its columns, whose
+/// keys are `keys`, like `tilt`. The only error is out of memory.
 pub fn tilt_of(
     alloc: Global,
-    s: &Score,
-    voices: &[DrawnVoice<'_>],
-    t: &Timeline,
+    drawn: &DrawnScore<'_>,
     a: u32,
     b: u32,
     keys: Row<ColumnKey>,
     at: &[i64],
 ) -> Result<SystemMarks, Memory>
-    requires good { IsGoodScore s.now }
-    requires times { t.now ≡ timeline_of s.now }
     requires order { a < b }
-    requires within { b ≤ s.now.measures }
-    requires voices { voices.now ≡ map drawn_voice s.now.voices }
-    requires drawn { All (λ v. AreGoodMeasures v.measures) voices.now }
-    requires keys { AreKeys keys (called_keys s.now t.now.lengths a b) }
-    requires places { AreAbscissas s.now t.now a b at.now }
-    ensures tilted { IfOk result (IsTilted s.now t.now a b at.now) }
-    ensures alike { IfOk result (λ m. (flat : SystemMarks) → IsCall s.now t.now a b flat → HaveSameShapes flat m) }
-    ensures places { IfOk result (λ m. All (IsInSystem t.now.lengths a b) m.keys) }
+    requires within { b ≤ drawn.now.score.now.measures }
+    requires keys { AreKeys keys (called_keys drawn.now.score.now drawn.now.times.now.lengths a b) }
+    requires places { AreAbscissas drawn.now.score.now drawn.now.times.now a b at.now }
+    ensures tilted { IfOk result (IsTilted drawn.now.score.now drawn.now.times.now a b at.now) }
+    ensures alike { IfOk result (λ m.
+        (flat : SystemMarks) → IsCall drawn.now.score.now drawn.now.times.now a b flat → HaveSameShapes flat m) }
+    ensures places { IfOk result (λ m. All (IsInSystem drawn.now.times.now.lengths a b) m.keys) }
     ensures lines { IfOk result (λ m. All CoversLines m.staves) }
     ensures good { IfOk result (λ m. All (λ staff. AreGoodMarks staff.marks) m.staves) }
 {
     let frame = SystemFrame {
         keys: keys.as_slice(),
-        lengths: t.lengths.as_slice(),
+        lengths: drawn.times.lengths.as_slice(),
         a,
         b,
     };
-    let staves = tilted_staves(alloc, &frame, at, voices)?;
+    let staves = tilted_staves(alloc, &frame, at, drawn.voices)?;
     Ok(SystemMarks { a, b, keys, staves })
 }
 
@@ -200,6 +202,11 @@ pub fn tilt(
     ensures good { IfOk result (λ m. All (λ staff. AreGoodMarks staff.marks) m.staves) }
 {
     let voices = draw_voices(alloc, s)?;
-    let keys = system_keys(alloc, s, voices.as_slice(), t, a, b)?;
-    tilt_of(alloc, s, voices.as_slice(), t, a, b, keys, at)
+    let drawn = DrawnScore {
+        score: s,
+        times: t,
+        voices: voices.as_slice(),
+    };
+    let keys = system_keys(alloc, &drawn, a, b)?;
+    tilt_of(alloc, &drawn, a, b, keys, at)
 }

@@ -40,7 +40,8 @@ fn draws(signed: bool, changes: &Changes) -> bool
     changes.clef.is_some() || draws_key(signed, &changes.key) || draws_meter(changes.meter)
 }
 
-fn is_featured(bar: Bar) -> bool
+/// Returns whether a bar has any feature. The bar before the first measure is drawn only if it has one.
+pub fn has_features(bar: Bar) -> bool
     ensures { result ≡ has_features bar }
 {
     bar.end || bar.start || bar.last || bar.initial || bar.double || bar.dotted || bar.unseen
@@ -87,7 +88,7 @@ pub fn put_event_keys(
 pub fn put_first_key(out: &mut Row<ColumnKey>, a: u32, bar: Bar) -> Result<(), Memory>
     ensures { OnOk result (out.new ≡ out.old ++ first_keys a bar) }
 {
-    if a != 0 || !is_featured(bar) {
+    if a != 0 || !has_features(bar) {
         return Ok(());
     }
     out.push(ColumnKey::new(0, 0, Class::First, 0))

@@ -11,7 +11,7 @@ pub mod keys;
 pub mod ranks;
 pub mod times;
 
-pub use columns::{put_event_keys, put_first_key, put_own_keys, rising_keys};
+pub use columns::{has_features, put_event_keys, put_first_key, put_own_keys, rising_keys};
 pub use keys::{Class, ColumnKey};
 pub use ranks::{is_same, next_rank, rank_of};
 pub use times::{Onset, Timeline, onsets};

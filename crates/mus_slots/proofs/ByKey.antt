@@ -6,8 +6,7 @@ use Rattle.std.proofs.lemmas.Bool.{eq-eqb, ne_eqb}
 use Rattle.std.proofs.lemmas.Bool.Decides.{nat_tests}
 use Rattle.std.proofs.lemmas.List.{append-nil}
 use Rattle.std.proofs.lemmas.List.Elements.{filter-append}
-use Rattle.std.proofs.lemmas.List.Sums.{sum_by-cons}
-use Rattle.std.specs.List.{AllByRecursion, Contains, count_by, filter, flat_map, range_with_len, slice_index_or}
+use Rattle.std.specs.List.{AllByRecursion, Contains, filter, flat_map, range_with_len, slice_index_or}
 use Rattle.mus_onsets.specs.declared.keys.Class.{Class}
 use Rattle.mus_onsets.specs.declared.keys.ColumnKey.{ColumnKey}
 use Rattle.mus_onsets.specs.Keys.{key_at}
@@ -271,19 +270,3 @@ module _ {S : Type 0} (key : S → ColumnKey) where
             ≡ flat_map laid_at_key (cond b (s ∷ at k ss) (at k ss))
         by true = refl
         by false = refl
-
--- ---- counts
-module _ {A : Type 0} (p q : A → Bool) (only : (x : A) → q x ≡ false → p x ≡ false) where
-  pub count_kept : (xs : List A) → count_by p xs ≡ count_by p (filter q xs)
-  count_kept [] = refl
-  count_kept (x ∷ xs) = by (q x) refl (count_kept xs)
-    where
-      by : (b : Bool) → q x ≡ b → count_by p xs ≡ count_by p (filter q xs)
-          → count_by p (x ∷ xs) ≡ count_by p (cond b (x ∷ filter q xs) (filter q xs))
-      by true e more =
-          sum_by-cons (λ y. cond (p y) 1 0) x xs
-          ∙ ap (λ n. cond (p x) 1 0 + n) more
-          ∙ sym (sum_by-cons (λ y. cond (p y) 1 0) x (filter q xs))
-      by false e more =
-          let none : 0 + count_by p xs ≡ count_by p xs = omega arith in
-          sum_by-cons (λ y. cond (p y) 1 0) x xs ∙ ap (λ b. cond b 1 0 + count_by p xs) (only x e) ∙ none ∙ more

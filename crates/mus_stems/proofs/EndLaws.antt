@@ -1,5 +1,5 @@
 -- The own ends in the plans of `stems_of` are in range, and there is a plan for each event.
-use Rattle.std.proofs.Common.{◌≡◌, ℕ, ℤ, pos, negsuc, ◌≤ℤ◌, Bool, true, false, List, [], ◌∷◌, length, suc, ap, ◌∙◌}
+use Rattle.std.proofs.Common.{◌≡◌, ℕ, ℤ, ◌≤ℤ◌, Bool, true, false, List, [], ◌∷◌, length, suc, ap, ◌∙◌}
 use Rattle.std.proofs.Common.{refl, subst, sym, arith}
 use Rattle.std.proofs.lemmas.Int.{ints, clamps}
 use Rattle.std.specs.List.{AllByRecursion}
@@ -7,6 +7,7 @@ use Rattle.mus_units.specs.{declared.note.Wish.Wish, declared.pitch.Clef.Clef}
 use Rattle.mus_stems.specs.declared.heads.HeadPosition.{HeadPosition}
 use Rattle.mus_stems.specs.declared.stills.StemInput.{StemInput}
 use Rattle.mus_stems.specs.declared.plans.StemPlan.{StemPlan}
+use Rattle.mus_stems.specs.Distances.{least_end, greatest_end}
 use Rattle.mus_stems.specs.Heads.{AllNear, lowest, highest}
 use Rattle.mus_stems.specs.Stills.{clefs_from, stills, IsGoodStill, AllGood}
 use Rattle.mus_stems.specs.Beams.{is_joined, beams}
@@ -19,7 +20,7 @@ use Rattle.mus_stems.proofs.Taking.{stills_length}
 use Rattle.mus_score.specs.declared.score.Flat.{Flat}
 
 IsEnd : ℤ → Type 0
-IsEnd z = (negsuc 5249 ≤ℤ z) × (z ≤ℤ pos 7250)
+IsEnd z = (least_end ≤ℤ z) × (z ≤ℤ greatest_end)
 
 outer_near : (up : Bool) (low high : ℤ) → InRange low → InRange high → IsEnd (outer_end up low high)
 unfolding IsEnd outer_end upper_end lower_end

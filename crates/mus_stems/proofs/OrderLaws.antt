@@ -1,5 +1,5 @@
 -- The heads that are taken level by level are those of an event in their order, and there is only one such order.
-use Rattle.std.proofs.Common.{◌≡◌, ℕ, zero, suc, ◌+◌, ◌≤◌, ℤ, pos, negsuc, ◌+ℤ◌, ◌≤ℤ◌, ◌<ℤ◌, ◌⊎◌, inl, inr, Bool, true}
+use Rattle.std.proofs.Common.{◌≡◌, ℕ, zero, suc, ◌+◌, ◌≤◌, ℤ, pos, ◌+ℤ◌, ◌≤ℤ◌, ◌<ℤ◌, ◌⊎◌, inl, inr, Bool, true}
 use Rattle.std.proofs.Common.{false, cond, List, [], ◌∷◌, refl, sym, ◌∙◌, ap, subst, Some, arith}
 use Rattle.std.proofs.lemmas.Int.{ints}
 use Rattle.std.proofs.lemmas.Bool.{false≢true}
@@ -8,6 +8,7 @@ use Rattle.std.specs.Prelude.{slice_get}
 use Rattle.std.specs.Ordering.{int_eq}
 use Rattle.std.specs.List.{AllByRecursion}
 use Rattle.mus_stems.specs.declared.heads.HeadPosition.{HeadPosition}
+use Rattle.mus_stems.specs.Distances.{lowest_level, level_count}
 use Rattle.mus_stems.specs.Heads.{IsNearStaff, AllNear, Taken, level_of, taken_one, taken_at, taken_from, taken}
 use Rattle.mus_stems.specs.Order.{IsBefore, AreTakenInOrder, head_at, IsHead, IsAmong, AreTaken}
 
@@ -203,7 +204,8 @@ near_at (d ∷ ss) zero s near is = (let e : d ≡ s = grind (arith, is) in subs
 near_at (d ∷ ss) (suc k) s near is = near_at ss k s near.1 is
 
 level_near : (up : Bool) (s : HeadPosition)
-    → IsNearStaff s → (negsuc 21 ≤ℤ level_of up s.height) × (level_of up s.height <ℤ (negsuc 21 +ℤ pos 45))
+    → IsNearStaff s
+    → (lowest_level ≤ℤ level_of up s.height) × (level_of up s.height <ℤ (lowest_level +ℤ pos level_count))
 unfolding level_of
 level_near true s near = (omega (arith, ints, near.0, near.1), omega (arith, ints, near.0, near.1))
 level_near false s near = (omega (arith, ints, near.0, near.1), omega (arith, ints, near.0, near.1))
@@ -211,9 +213,11 @@ level_near false s near = (omega (arith, ints, near.0, near.1), omega (arith, in
 pub taken_are : (up : Bool) (ss : List HeadPosition) → AllNear ss → AreTaken up ss (taken up ss)
 unfolding taken
 taken_are up ss near = record {
-  order = (from_order up (negsuc 21) 45 ss).0;
-  only = from_heads up (negsuc 21) 45 ss;
-  all = λ k s is. (let l = level_near up s (near_at ss k s near is) in from_all up (negsuc 21) 45 k ss s is l.0 l.1);
+  order = (from_order up lowest_level level_count ss).0;
+  only = from_heads up lowest_level level_count ss;
+  all =
+      λ k s is.
+      (let l = level_near up s (near_at ss k s near is) in from_all up lowest_level level_count k ss s is l.0 l.1);
 }
 
 -- two ordered lists of the same heads are equal

@@ -5,6 +5,7 @@ use Rattle.std.proofs.lemmas.Int.{ints, clamps, unsigned_abs-mul}
 use Rattle.std.proofs.Math.Nat.{div-le_of_le-mul, div-lt_iff_lt-mul, mul-le-mul}
 use Rattle.std.specs.Int.RustNames.{unsigned_abs}
 use Rattle.std.specs.Int.{int_div_euclid}
+use Rattle.mus_stems.specs.Distances.{steepest_climb, steepest, steepest_down}
 use Rattle.mus_stems.specs.Slope.{slope_input, slope_inputs, shares_beam, last_input, slope_line, rise_at, base_along}
 use Rattle.mus_stems.specs.Slope.{ends_along, beam_ends, sloped_ends, with_ends, sloped, ArePlaces, RisesInBeams}
 use Rattle.mus_stems.specs.Slope.{RisesAfter, IsAnchor, AreAnchors, IsLine, IsOver, AreOver, Rise, RiseFrom, IsBeamBase}
@@ -51,30 +52,31 @@ last_anchor : (a : SlopeInput) (es : List SlopeInput) → IsAnchor a → AreAnch
 last_anchor a [] is are = is
 last_anchor a (b ∷ es) is are = last_anchor b es are.0 are.1
 
--- a quotient is at most 500 if 500 times the divisor is no less than the dividend
+-- a quotient is at most the steepest climb if that times the divisor is no less than the dividend
 pub quotient_near : (z m : ℤ)
-    → pos 0 <ℤ m → unsigned_abs z ≤ 500 * unsigned_abs m
-    → (negsuc 499 ≤ℤ int_div_euclid z m) × (int_div_euclid z m ≤ℤ pos 500)
+    → pos 0 <ℤ m → unsigned_abs z ≤ steepest_climb * unsigned_abs m
+    → (steepest_down ≤ℤ int_div_euclid z m) × (int_div_euclid z m ≤ℤ steepest)
 quotient_near (pos a) (pos b) some few =
-    let q : a / b ≤ 500 = div-le_of_le-mul b (omega (arith, few)) in (omega (arith, ints), omega (arith, ints, q))
+    let q : a / b ≤ steepest_climb = div-le_of_le-mul b (omega (arith, few)) in
+    (omega (arith, ints), omega (arith, ints, q))
 quotient_near (negsuc a) (pos b) some few =
     let b_some : 0 < b = omega (arith, ints, some) in
-    let q : a / b < 500 = (div-lt_iff_lt-mul b_some).1 (omega (arith, few)) in
+    let q : a / b < steepest_climb = (div-lt_iff_lt-mul b_some).1 (omega (arith, few)) in
     (omega (arith, ints, q), omega (arith, ints))
 quotient_near z (negsuc b) some few = absurd (omega (arith, ints, some))
 
 pub rise_near : (climb along length : ℤ)
-    → negsuc 499 ≤ℤ climb → climb ≤ℤ pos 500 → pos 0 ≤ℤ along → along ≤ℤ length → pos 0 <ℤ length
-    → (negsuc 499 ≤ℤ int_div_euclid (climb *ℤ along) length) × (int_div_euclid (climb *ℤ along) length ≤ℤ pos 500)
+    → steepest_down ≤ℤ climb → climb ≤ℤ steepest → pos 0 ≤ℤ along → along ≤ℤ length → pos 0 <ℤ length
+    → (steepest_down ≤ℤ int_div_euclid (climb *ℤ along) length) × (int_div_euclid (climb *ℤ along) length ≤ℤ steepest)
 rise_near climb along length low high begun within some =
-    let c : unsigned_abs climb ≤ 500 = omega (arith, ints, low, high) in
+    let c : unsigned_abs climb ≤ steepest_climb = omega (arith, ints, low, high) in
     let a : unsigned_abs along ≤ unsigned_abs length = omega (arith, ints, begun, within) in
     quotient_near (climb *ℤ along) length some
-    (subst (λ n. n ≤ 500 * unsigned_abs length) (sym (unsigned_abs-mul climb along)) (mul-le-mul c a))
+    (subst (λ n. n ≤ steepest_climb * unsigned_abs length) (sym (unsigned_abs-mul climb along)) (mul-le-mul c a))
 
 -- the rise of a line over an event of its beam
 rise_over : (line : BeamLine) (a : SlopeInput)
-    → IsLine line → IsOver line a → (negsuc 499 ≤ℤ rise_at line a.x) × (rise_at line a.x ≤ℤ pos 500)
+    → IsLine line → IsOver line a → (steepest_down ≤ℤ rise_at line a.x) × (rise_at line a.x ≤ℤ steepest)
 unfolding rise_at
 rise_over line a is over =
     let after = over.after in let before = over.before in let rising = is.rising in

@@ -2,7 +2,7 @@
 -- at one height in the order of the text. A head at most one step past the one taken before it goes to the other side
 -- of the stem, unless that one did.
 use Rattle.mus_score.specs.Limits.{highest_head, lowest_head}
-use Rattle.std.specs.Prelude.{ℕ, zero, suc, ℤ, pos, negsuc, ◌+◌, ◌+ℤ◌, ◌-ℤ◌, ◌≤ℤ◌, Bool, true, false, not, ◌&&◌, int_le}
+use Rattle.std.specs.Prelude.{ℕ, zero, suc, ℤ, pos, ◌+◌, ◌+ℤ◌, ◌-ℤ◌, ◌≤ℤ◌, Bool, true, false, not, ◌&&◌, int_le}
 use Rattle.std.specs.Prelude.{if◌then◌else◌, List, [], ◌∷◌, length, replicate, Option, Some, None, is_some}
 use Rattle.std.specs.Ordering.{int_eq}
 use Rattle.std.specs.Int.{int_min, int_max}
@@ -12,7 +12,7 @@ use Rattle.mus_units.specs.declared.note.Head.{Head}
 use Rattle.mus_units.specs.declared.pitch.Clef.{Clef}
 use Rattle.mus_stems.specs.declared.heads.HeadPosition.{HeadPosition}
 use Rattle.mus_stems.specs.declared.heads.LastHead.{LastHead}
-use Rattle.mus_stems.specs.Distances.{right_of_stem, left_of_stem}
+use Rattle.mus_stems.specs.Distances.{right_of_stem, left_of_stem, lowest_level, level_count}
 
 -- the position of a head in a clef, and whether an accidental is written before it
 unfoldable pub stand_of : Clef → Head → HeadPosition
@@ -63,7 +63,7 @@ taken_from up v (suc n) ss = taken_at up v 0 ss (taken_from up (v +ℤ pos 1) n 
 -- all heads as they are taken: from the lowest for up, from the highest for down, and heads of one height in the
 -- order of the text. Their levels are -22 to 22, since their heights are -14 to 22
 unfoldable pub taken : Bool → List HeadPosition → List Taken
-taken up ss = taken_from up (negsuc 21) 45 ss
+taken up ss = taken_from up lowest_level level_count ss
 
 -- a head is displaced if it is at most one step past the head taken before it and that head is not displaced
 unfoldable pub is_step_past : ℤ → ℤ → Bool

@@ -1,11 +1,12 @@
 -- The stem plans of the events of a measure.
-use Rattle.std.specs.Prelude.{◌≡◌, ℕ, ℤ, pos, negsuc, ◌≤ℤ◌, Bool, List, [], ◌∷◌, map}
+use Rattle.std.specs.Prelude.{◌≡◌, ℕ, ℤ, ◌≤ℤ◌, Bool, List, [], ◌∷◌, map}
 use Rattle.std.specs.List.{flat_map, AllByRecursion, AllZip}
 use Rattle.mus_units.specs.declared.pitch.Clef.{Clef}
 use Rattle.mus_units.specs.declared.note.Wish.{Wish}
 use Rattle.mus_score.specs.declared.score.Flat.{Flat}
 use Rattle.mus_stems.specs.declared.stills.StemInput.{StemInput}
 use Rattle.mus_stems.specs.declared.plans.StemPlan.{StemPlan}
+use Rattle.mus_stems.specs.Distances.{least_end, greatest_end}
 use Rattle.mus_stems.specs.Heads.{shifts_of}
 use Rattle.mus_stems.specs.Displaced.{AreDisplaced}
 use Rattle.mus_stems.specs.Columns.{AreInColumns}
@@ -89,9 +90,9 @@ OnePlan =
     (wish : Wish) (es : List StemInput) (plans others : List StemPlan)
     → ArePlans wish es plans → ArePlans wish es others → plans ≡ others
 
--- a stem's own end is -5250 to 7250
+-- a stem's own end is in range
 abbrev pub IsEndNear : StemPlan → Type 0
-IsEndNear p = (negsuc 5249 ≤ℤ p.own) × (p.own ≤ℤ pos 7250)
+IsEndNear p = (least_end ≤ℤ p.own) × (p.own ≤ℤ greatest_end)
 
 abbrev pub AllEndsNear : List StemPlan → Type 0
 AllEndsNear ps = AllByRecursion IsEndNear ps

@@ -1,13 +1,13 @@
 -- Sloped beams: in a beam the stems end on a line over the abscissas of their events. The line climbs by the last
--- event's own end less the first one's, at most 500, and is as far out as the own ends of its events require.
-use Rattle.std.specs.Prelude.{◌≡◌, ℤ, pos, negsuc, ◌^◌, ◌+ℤ◌, ◌-ℤ◌, ◌*ℤ◌, ◌≤ℤ◌, ◌<ℤ◌, Bool, true, ◌==◌, ⊤, List, []}
+-- event's own end less the first one's, at most `steepest`, and is as far out as the own ends of its events require.
+use Rattle.std.specs.Prelude.{◌≡◌, ℤ, pos, ◌^◌, ◌+ℤ◌, ◌-ℤ◌, ◌*ℤ◌, ◌≤ℤ◌, ◌<ℤ◌, Bool, true, ◌==◌, ⊤, List, []}
 use Rattle.std.specs.Prelude.{◌∷◌}
 use Rattle.std.specs.Int.{int_min, int_max, int_div_euclid}
 use Rattle.std.specs.List.{flat_map, AllByRecursion}
 use Rattle.mus_stems.specs.declared.plans.StemPlan.{StemPlan}
 use Rattle.mus_stems.specs.declared.slopes.SlopeInput.{SlopeInput}
 use Rattle.mus_stems.specs.declared.slopes.BeamLine.{BeamLine}
-use Rattle.mus_stems.specs.Distances.{steepest, steepest_down}
+use Rattle.mus_stems.specs.Distances.{steepest, steepest_down, least_end, greatest_end, least_base, greatest_base}
 use Rattle.mus_stems.specs.Ends.{further_end}
 use Rattle.mus_stems.specs.Runs.{runs}
 
@@ -28,8 +28,8 @@ abbrev pub last_input : SlopeInput → List SlopeInput → SlopeInput
 last_input a [] = a
 last_input a (b ∷ bs) = last_input b bs
 
--- the line of a beam: from its first event to its last, climbing by the last own end less the first, clamped to -500
--- to 500
+-- the line of a beam: from its first event to its last, climbing by the last own end less the first, clamped to
+-- `steepest_down` to `steepest`
 unfoldable pub slope_line : SlopeInput → SlopeInput → BeamLine
 slope_line a b = record { first = a.x; last = b.x; climb = int_max (int_min (b.own -ℤ a.own) steepest) steepest_down }
 
@@ -90,12 +90,12 @@ RisesInBeams (a ∷ es) = RisesAfter a es
 
 -- an event with its own end and its abscissa in range
 abbrev pub IsAnchor : SlopeInput → Type 0
-IsAnchor a = (negsuc 5249 ≤ℤ a.own) × (a.own ≤ℤ pos 7250) × IsAbscissa a.x
+IsAnchor a = (least_end ≤ℤ a.own) × (a.own ≤ℤ greatest_end) × IsAbscissa a.x
 
 abbrev pub AreAnchors : List SlopeInput → Type 0
 AreAnchors es = AllByRecursion IsAnchor es
 
--- a line that goes to the right and climbs by at most 500
+-- a line that goes to the right and climbs by at most `steepest`
 pub record IsLine (line : BeamLine) : Type 0 where
   pub first : pos 0 ≤ℤ line.first
   pub rising : line.first <ℤ line.last
@@ -105,8 +105,8 @@ pub record IsLine (line : BeamLine) : Type 0 where
 
 -- an event within the extent of a line
 pub record IsOver (line : BeamLine) (a : SlopeInput) : Type 0 where
-  pub own_low : negsuc 5249 ≤ℤ a.own
-  pub own_high : a.own ≤ℤ pos 7250
+  pub own_low : least_end ≤ℤ a.own
+  pub own_high : a.own ≤ℤ greatest_end
   pub after : line.first ≤ℤ a.x
   pub before : a.x ≤ℤ line.last
 
@@ -122,6 +122,6 @@ abbrev pub Rise : List SlopeInput → Type 0
 Rise [] = ⊤
 Rise (a ∷ es) = RiseFrom a es
 
--- a base of a beam is -5750 to 7750
+-- a base of a beam in range
 abbrev pub IsBeamBase : ℤ → Type 0
-IsBeamBase z = (negsuc 5749 ≤ℤ z) × (z ≤ℤ pos 7750)
+IsBeamBase z = (least_base ≤ℤ z) × (z ≤ℤ greatest_base)

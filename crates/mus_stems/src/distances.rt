@@ -41,3 +41,6 @@ pub const BETWEEN_LINES: i32 = 500;
 
 /// The most that a beam climbs.
 pub const STEEPEST: i64 = 500;
+
+/// The number of levels of heads.
+pub const LEVEL_COUNT: u8 = 45;

@@ -1,6 +1,7 @@
 ghost use Rattle.mus_score.specs.Limits.{highest_head, lowest_head};
-ghost use Rattle.std.specs.Prelude.{◌≡◌, ◌≤ℤ◌, ◌≤◌, ◌++◌, pos, negsuc, IfOk, OnOk};
+ghost use Rattle.std.specs.Prelude.{◌≡◌, ◌≤ℤ◌, ◌≤◌, ◌++◌, IfOk, OnOk};
 ghost use Rattle.std.specs.List.{list_any};
+ghost use Rattle.mus_stems.specs.Distances.{dot_column, outer_dot_column};
 ghost use Rattle.mus_stems.specs.Heads.{AllNear};
 ghost use Rattle.mus_stems.specs.Dots.{is_right, first_dot, dot_place, dot_at, dots_at, dot_height, dots_along};
 
@@ -48,8 +49,8 @@ fn any_right(shifts: &[i32]) -> bool
 #[tactic(auto, unfolding(crate::specs::Dots::first_dot))]
 pub fn dot_dx(shifts: &[i32]) -> i32
     ensures value { result ≡ first_dot shifts.now }
-    ensures low { pos 600 ≤ℤ result }
-    ensures high { result ≤ℤ pos 1160 }
+    ensures low { dot_column ≤ℤ result }
+    ensures high { result ≤ℤ outer_dot_column }
 {
     if any_right(shifts) {
         OUTER_DOT_COLUMN
@@ -62,8 +63,8 @@ pub fn dot_dx(shifts: &[i32]) -> i32
 #[tactic(auto, unfolding(crate::specs::Dots::dot_at, crate::specs::Dots::dot_place))]
 fn dot(first: i32, dy: i32, j: u8) -> Spot
     requires near { j ≤ 3 }
-    requires low { pos 600 ≤ℤ first }
-    requires high { first ≤ℤ pos 1160 }
+    requires low { dot_column ≤ℤ first }
+    requires high { first ≤ℤ outer_dot_column }
     ensures { result ≡ dot_at first dy j }
 {
     Spot {
@@ -75,8 +76,8 @@ fn dot(first: i32, dy: i32, j: u8) -> Spot
 /// Adds the dots of one head.
 fn put_dots_of(out: &mut Row<Spot>, first: i32, dy: i32, n: u8) -> Result<(), Memory>
     requires near { n ≤ 3 }
-    requires low { pos 600 ≤ℤ first }
-    requires high { first ≤ℤ pos 1160 }
+    requires low { dot_column ≤ℤ first }
+    requires high { first ≤ℤ outer_dot_column }
     ensures { OnOk result (out.new ≡ out.old ++ dots_at first dy 0 n) }
 {
     for j in 0..n {
@@ -88,8 +89,8 @@ fn put_dots_of(out: &mut Row<Spot>, first: i32, dy: i32, n: u8) -> Result<(), Me
 /// Adds the dots of the heads of an event, `n` for each.
 pub fn put_dots(out: &mut Row<Spot>, dx: i32, n: u8, stands: &[HeadPosition]) -> Result<(), Memory>
     requires dots { n ≤ 3 }
-    requires low { pos 600 ≤ℤ dx }
-    requires high { dx ≤ℤ pos 1160 }
+    requires low { dot_column ≤ℤ dx }
+    requires high { dx ≤ℤ outer_dot_column }
     requires near { AllNear stands.now }
     ensures { OnOk result (out.new ≡ out.old ++ dots_along dx n stands.now) }
 {

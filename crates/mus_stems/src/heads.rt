@@ -1,9 +1,10 @@
 ghost use Rattle.mus_score.specs.Limits.{highest_head, lowest_head};
-ghost use Rattle.std.specs.Prelude.{◌≡◌, ◌≤ℤ◌, ◌<◌, ◌++◌, List, Option, pos, negsuc, length, map, IfOk};
+ghost use Rattle.std.specs.Prelude.{◌≡◌, ◌≤ℤ◌, ◌<◌, ◌++◌, List, Option, length, map, IfOk};
+ghost use Rattle.mus_stems.specs.Distances.{lowest_level};
 ghost use Rattle.mus_stems.specs.Heads.{stand_of, IsNearStaff, AllNear, lowest, highest, level_of, Taken, taken_one};
 ghost use Rattle.mus_stems.specs.Heads.{taken_at, taken, is_step_past, gives_way, shifted, head_shift, shifts_of};
 
-use crate::distances::{LEFT_OF_STEM, RIGHT_OF_STEM};
+use crate::distances::{LEFT_OF_STEM, LEVEL_COUNT, RIGHT_OF_STEM};
 use mus_score::HIGHEST_HEAD;
 use mus_units::{Clef, Few, Head, Memory, Row, height};
 use std::alloc::Global;
@@ -85,7 +86,7 @@ pub fn level(up: bool, height: i32) -> i32
 /// Returns whether a level is at most one step past the one before.
 #[tactic(auto, unfolding(crate::specs::Heads::is_step_past))]
 fn is_step(before: i32, level: i32) -> bool
-    requires low { negsuc 21 ≤ℤ level }
+    requires low { lowest_level ≤ℤ level }
     requires high { level ≤ℤ highest_head }
     ensures { result ≡ is_step_past before level }
 {
@@ -95,7 +96,7 @@ fn is_step(before: i32, level: i32) -> bool
 /// Returns whether a head is displaced by the one taken before it.
 #[tactic(auto, unfolding(crate::specs::Heads::gives_way))]
 fn is_moved(last: Option<LastHead>, level: i32) -> bool
-    requires low { negsuc 21 ≤ℤ level }
+    requires low { lowest_level ≤ℤ level }
     requires high { level ≤ℤ highest_head }
     ensures { result ≡ gives_way last level }
 {
@@ -124,7 +125,7 @@ fn shift_one(
     shifts: &mut [i32],
 ) -> Option<LastHead>
     requires near { IsNearStaff s }
-    requires low { negsuc 21 ≤ℤ v }
+    requires low { lowest_level ≤ℤ v }
     requires high { v ≤ℤ highest_head }
     requires room { i < length shifts.old }
     ensures moved { (rest : List Taken)
@@ -156,7 +157,7 @@ fn shift_level(
     shifts: &mut [i32],
 ) -> Option<LastHead>
     requires near { AllNear stands.now }
-    requires low { negsuc 21 ≤ℤ v }
+    requires low { lowest_level ≤ℤ v }
     requires high { v ≤ℤ highest_head }
     requires room { length stands.now ≡ length shifts.old }
     ensures moved { (rest : List Taken)
@@ -180,7 +181,7 @@ fn shift_all(up: bool, stands: &[HeadPosition], shifts: &mut [i32])
     ensures moved { shifts.new ≡ shifted (head_shift up) Option.None (taken up stands.now) shifts.old }
 {
     let mut last = None;
-    for n in 0..45u8 {
+    for n in 0..LEVEL_COUNT {
         last = shift_level(up, i32::from(n) - HIGHEST_HEAD, stands, last, shifts);
     }
 }

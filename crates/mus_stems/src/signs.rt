@@ -1,11 +1,14 @@
 ghost use Rattle.mus_score.specs.Limits.{head_limit};
-ghost use Rattle.std.specs.Prelude.{◌≡◌, ◌≤ℤ◌, ◌<◌, ◌≤◌, ◌+◌, List, negsuc, length, Some, None, if◌then◌else◌, false};
+ghost use Rattle.std.specs.Prelude.{◌≡◌, ◌≤ℤ◌, ◌<◌, ◌≤◌, ◌+◌, List, length, Some, None, if◌then◌else◌, false};
 ghost use Rattle.std.specs.Prelude.{IfOk};
 ghost use Rattle.std.specs.List.{list_any};
+ghost use Rattle.mus_stems.specs.Distances.{sign_column_limit};
 ghost use Rattle.mus_stems.specs.Heads.{IsNearStaff, AllNear, Taken, taken_one, taken_at, taken};
 ghost use Rattle.mus_stems.specs.Signs.{is_left, first_sign, sign_dx, signs_along, signs_from};
 
-use crate::distances::{BETWEEN_COLUMNS, LEFT_OF_STEM, OUTER_SIGN_COLUMN, SIGN_COLUMN};
+use crate::distances::{
+    BETWEEN_COLUMNS, LEFT_OF_STEM, LEVEL_COUNT, OUTER_SIGN_COLUMN, SIGN_COLUMN,
+};
 use crate::heads::{HeadPosition, level};
 use mus_score::HIGHEST_HEAD;
 use mus_units::{Few, Memory, Row};
@@ -14,7 +17,7 @@ use std::alloc::Global;
 /// Returns the dx of an accidental by its number.
 #[tactic(auto, unfolding(crate::specs::Signs::sign_dx))]
 fn sign_place(first: i32, k: u32) -> i32
-    requires low { negsuc 1310 ≤ℤ first }
+    requires low { sign_column_limit ≤ℤ first }
     requires few { k ≤ 2250000 }
     ensures { result ≡ sign_dx first k }
 {
@@ -25,7 +28,7 @@ fn sign_place(first: i32, k: u32) -> i32
 #[tactic(auto, unfolding(crate::specs::Heads::taken_one))]
 fn sign_one(first: i32, v: i32, s: HeadPosition, i: usize, k: u32, signs: &mut [Option<i32>]) -> u32
     requires near { IsNearStaff s }
-    requires low { negsuc 1310 ≤ℤ first }
+    requires low { sign_column_limit ≤ℤ first }
     requires few { k ≤ 2250000 }
     requires room { i < length signs.old }
     ensures bound { result ≤ k + 1 }
@@ -47,7 +50,7 @@ fn sign_level(first: i32, v: i32, stands: &[HeadPosition], k: u32, signs: &mut [
     requires near { AllNear stands.now }
     requires room { length stands.now ≡ length signs.old }
     requires few { length stands.now ≤ head_limit }
-    requires low { negsuc 1310 ≤ℤ first }
+    requires low { sign_column_limit ≤ℤ first }
     requires bound { k ≤ 2200000 }
     ensures bound { result ≤ k + length stands.now }
     ensures signs { (rest : List Taken)
@@ -68,11 +71,11 @@ fn sign_all(first: i32, stands: &[HeadPosition], signs: &mut [Option<i32>])
     requires near { AllNear stands.now }
     requires room { length stands.now ≡ length signs.old }
     requires few { length stands.now ≤ head_limit }
-    requires low { negsuc 1310 ≤ℤ first }
+    requires low { sign_column_limit ≤ℤ first }
     ensures { signs.new ≡ signs_along first 0 (taken false stands.now) signs.old }
 {
     let mut k = 0;
-    for n in 0..45u8 {
+    for n in 0..LEVEL_COUNT {
         k = sign_level(first, i32::from(n) - HIGHEST_HEAD, stands, k, signs);
     }
 }
@@ -101,7 +104,7 @@ pub fn signs_for(
 ) -> Result<Few<Option<i32>>, Memory>
     requires near { AllNear stands.now }
     requires few { length stands.now ≤ head_limit }
-    requires low { negsuc 1310 ≤ℤ first }
+    requires low { sign_column_limit ≤ℤ first }
     ensures { IfOk result (λ r. r ≡ signs_from first stands.now) }
 {
     if let [stand] = stands {
@@ -133,7 +136,7 @@ fn any_left(shifts: &[i32]) -> bool
 #[tactic(auto, unfolding(crate::specs::Signs::first_sign))]
 pub fn sign_dx(shifts: &[i32]) -> i32
     ensures value { result ≡ first_sign shifts.now }
-    ensures low { negsuc 1310 ≤ℤ result }
+    ensures low { sign_column_limit ≤ℤ result }
 {
     if any_left(shifts) {
         OUTER_SIGN_COLUMN

@@ -286,7 +286,7 @@ fn copy_all_with(alloc: Global, plans: &[StemPlan], ends: &[i32]) -> Result<Row<
 /// Returns the plans that `stems` returned, with each end `to` on its beam's line and all else unchanged.
 ///
 /// `at` has the abscissa of each event in u, from 0 to 2^40, rising within a beam. The line climbs from the first
-/// event to the last by the difference of their own ends, at most 500, and is as far out as the own ends of its
+/// event to the last by the difference of their own ends, at most 500 u, and is as far out as the own ends of its
 /// events require. An event without a beam keeps its own end.
 #[tactic(auto, using(crate::proofs::SlopeLaws::anchors_are, crate::proofs::SlopeLaws::ends_length, //
 crate::proofs::SlopeLaws::sloped_length), unfolding(crate::specs::Slope::sloped))]

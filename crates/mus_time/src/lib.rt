@@ -9,4 +9,4 @@ pub mod voices;
 pub use frame::SystemFrame;
 pub use keys::{keys_of, measure_keys, note_key, system_keys};
 pub use mus_onsets::{Class, ColumnKey, Onset, Timeline, onsets};
-pub use voices::draw_voices;
+pub use voices::{DrawnScore, draw_voices};

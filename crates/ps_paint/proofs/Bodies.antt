@@ -19,6 +19,7 @@ use Rattle.ps_steps.specs.Operators.{Operator, operator_name, moveto_op, lineto_
 use Rattle.ps_steps.specs.Operators.{stroke_op, gsave_op}
 use Rattle.ps_steps.specs.Operators.{grestore_op, translate_op, scale_op, setlinewidth_op, findfont_op, scalefont_op}
 use Rattle.ps_steps.specs.Operators.{setfont_op, show_op}
+use Rattle.ps_paint.specs.Distances.{big_height, line_width, small_height}
 use Rattle.ps_paint.specs.PaintOf.{edge}
 use Rattle.ps_paint.proofs.Runs.{op, wholes}
 
@@ -58,15 +59,15 @@ shown_tokens = op translate_op ∷ call (codes "m") ∷ op show_op ∷ op gresto
 
 abbrev pub size_body : Size → List SimpleToken
 size_body Size.Small = op gsave_op ∷ shown_tokens
-size_body Size.Big = op gsave_op ∷ (font_tokens (pos 1600) ++ shown_tokens)
+size_body Size.Big = op gsave_op ∷ (font_tokens big_height ++ shown_tokens)
 
 -- the beginning of a page
 abbrev pub pg_body : Frame → List SimpleToken
 pg_body f =
     op gsave_op ∷ pointed_token (pos 1) ∷ pointed_token (pos 1) ∷ op scale_op ∷ whole_token (pos f.left)
     ∷ whole_token (pos f.bottom) ∷ op translate_op
-    ∷ pointed_token (pos f.scale) ∷ pointed_token (pos f.scale) ∷ op scale_op ∷ whole_token (pos 60)
-    ∷ op setlinewidth_op ∷ font_tokens (pos 900)
+    ∷ pointed_token (pos f.scale) ∷ pointed_token (pos f.scale) ∷ op scale_op ∷ whole_token (pos line_width)
+    ∷ op setlinewidth_op ∷ font_tokens small_height
 
 -- a step of a path: its numbers, and its procedure
 abbrev pub step_numbers : PathOp → List ℤ

@@ -14,6 +14,7 @@ use Rattle.ps_steps.specs.declared.value.Operand.TheVariants.{Whole as whole_val
 use Rattle.ps_steps.specs.declared.graphics.Graphics.{Graphics}
 use Rattle.ps_steps.specs.declared.token.SimpleToken.TheVariants.{Name as call}
 use Rattle.ps_steps.specs.State.{State, Names}
+use Rattle.ps_paint.specs.Distances.{line_width}
 use Rattle.ps_paint.specs.PaintOf.{to_x, to_y, move, line, curve, stroked, filled_paint}
 use Rattle.ps_paint.proofs.Bodies.{Made}
 use Rattle.ps_paint.proofs.Scales.{Comes}
@@ -23,7 +24,7 @@ use Rattle.ps_paint.proofs.Runs.{Runs, both_runs, calls, acts, op, is_in_range}
 -- the graphics of a page with the origin at (x, y)
 abbrev pub drawing : Frame → ℤ → ℤ → List Seg → ℤ → Graphics
 drawing f x y path font =
-    record { path = path; scale = pos f.scale; x = to_x f x; y = to_y f y; font = font; line = pos 60 }
+    record { path = path; scale = pos f.scale; x = to_x f x; y = to_y f y; font = font; line = pos line_width }
 
 -- with the origin at the corner of the margins
 abbrev pub corner : Frame → ℤ → Graphics
@@ -132,4 +133,4 @@ module _ {f : Frame} {ds : Names} (made : Made f ds) {saved : List Graphics} {ps
       (page ds st (drawing f x y [] font) saved (ps ++ stroked f path ∷ []) pages)
   strokes x y =
       acts stroke_op (made.free stroke_op)
-      (is_in_range ((pos 60 *ℤ pos f.scale) ∷ []) _ (rw (near_width f made.frame) refl))
+      (is_in_range ((pos line_width *ℤ pos f.scale) ∷ []) _ (rw (near_width f made.frame) refl))

@@ -16,6 +16,7 @@ use Rattle.ps_steps.specs.declared.graphics.Graphics.{Graphics}
 use Rattle.ps_steps.specs.Near.{is_near}
 use Rattle.ps_steps.specs.State.{State, Names}
 use Rattle.ps_steps.specs.Operators.{all_near}
+use Rattle.ps_paint.specs.Distances.{small_height}
 use Rattle.ps_paint.proofs.Scales.{near}
 use Rattle.ps_paint.proofs.Runs.{Runs, pushed}
 use Rattle.ps_paint.proofs.Draws.{corner, page}
@@ -23,7 +24,7 @@ use Rattle.ps_paint.proofs.Takes.{Takes, IsTokenWord, nothing_taken, both_taken,
 
 -- before and after each line of a page
 abbrev pub on_page : Frame → Names → List Operand → List Graphics → List Paint → List PagePaint → State
-on_page f ds st saved ps pages = page ds st (corner f (pos 900)) saved ps pages
+on_page f ds st saved ps pages = page ds st (corner f small_height) saved ps pages
 
 -- a text leads from one state to another, in at most 100 tokens per byte
 pub record Leads (text : List ℕ) (m k : State) : Type 0 where

@@ -28,6 +28,7 @@ use Rattle.ps_steps.specs.State.{first_state, no_names}
 use Rattle.ps_steps.specs.Operators.{defined, moveto_op, lineto_op, curveto_op, closepath_op, fill_op, stroke_op}
 use Rattle.ps_steps.specs.Operators.{gsave_op, scale_op, translate_op, setlinewidth_op, findfont_op}
 use Rattle.ps_steps.specs.Operators.{scalefont_op, setfont_op}
+use Rattle.ps_paint.specs.Distances.{line_width, small_height}
 use Rattle.ps_paint.proofs.Runs.{no_more, op}
 use Rattle.ps_paint.proofs.Bodies.{sf_body, vl_body, st_body, beam_body, ac_body, size_body, pg_body, glyph_body}
 use Rattle.ps_paint.proofs.Lexing.{Lexes, both_lexed}
@@ -181,8 +182,8 @@ pg_lexed f fr rest =
     (lexed (codes "translate ") (op translate_op ∷ []) refl refl) in
     let scaled = both_lexed (both_lexed placed percent_piece) percent_piece in
     let last = lexed (codes "scale 60 setlinewidth /EngFont findfont 900 scalefont ")
-    (op scale_op ∷ whole_token (pos 60) ∷ op setlinewidth_op ∷ label_token (codes "EngFont") ∷ op findfont_op
-    ∷ whole_token (pos 900) ∷ op scalefont_op ∷ [])
+    (op scale_op ∷ whole_token (pos line_width) ∷ op setlinewidth_op ∷ label_token (codes "EngFont") ∷ op findfont_op
+    ∷ whole_token small_height ∷ op scalefont_op ∷ [])
     refl refl in
     ends (both_lexed scaled last) (piece_stands (codes "setfont") (op setfont_op) refl) rest
 

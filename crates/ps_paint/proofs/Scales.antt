@@ -7,6 +7,7 @@ use Rattle.mus_units.specs.declared.glyph.Size.{Size}
 use Rattle.ps_text.specs.declared.sheet.Frame.{Frame}
 use Rattle.ps_text.specs.Range.{IsFrame, IsNumber, IsOffset}
 use Rattle.ps_steps.specs.Near.{is_near}
+use Rattle.ps_paint.specs.Distances.{big_height, line_width, small_height}
 use Rattle.ps_paint.specs.PaintOf.{font_height}
 
 -- within 2^43 of 0
@@ -60,9 +61,9 @@ pub near_place : (margin p : ℕ) (x : ℤ)
 near_place margin p x l s c =
     let b = bounded p x c in near (pos (100 * margin) +ℤ (pos p *ℤ x)) (omega (arith, ints)) (omega (arith, ints))
 
-pub near_width : (f : Frame) → IsFrame f → is_near (pos 60 *ℤ pos f.scale) ≡ true
-near_width f g = near (pos 60 *ℤ pos f.scale) (omega (arith, ints)) (omega (arith, ints))
+pub near_width : (f : Frame) → IsFrame f → is_near (pos line_width *ℤ pos f.scale) ≡ true
+near_width f g = near (pos line_width *ℤ pos f.scale) (omega (arith, ints)) (omega (arith, ints))
 
 pub near_size : (f : Frame) (size : Size) → IsFrame f → is_near (font_height size *ℤ pos f.scale) ≡ true
-near_size f Size.Small g = near (pos 900 *ℤ pos f.scale) (omega (arith, ints)) (omega (arith, ints))
-near_size f Size.Big g = near (pos 1600 *ℤ pos f.scale) (omega (arith, ints)) (omega (arith, ints))
+near_size f Size.Small g = near (small_height *ℤ pos f.scale) (omega (arith, ints)) (omega (arith, ints))
+near_size f Size.Big g = near (big_height *ℤ pos f.scale) (omega (arith, ints)) (omega (arith, ints))

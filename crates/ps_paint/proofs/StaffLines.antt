@@ -14,6 +14,7 @@ use Rattle.ps_steps.specs.declared.value.Operand.TheVariants.{Whole as whole_val
 use Rattle.ps_steps.specs.declared.graphics.Graphics.{Graphics}
 use Rattle.ps_steps.specs.State.{Names}
 use Rattle.ps_steps.specs.Operators.{all_near}
+use Rattle.ps_paint.specs.Distances.{small_height}
 use Rattle.ps_paint.specs.PaintOf.{move, line, stroked, rules}
 use Rattle.ps_paint.proofs.Bodies.{Made, rule_tokens}
 use Rattle.ps_paint.proofs.Scales.{Comes, no_way, close_number, from_zero, from_number}
@@ -27,8 +28,9 @@ module _ {f : Frame} {ds : Names} (made : Made f ds) where
       {pages : List PagePaint}
       → IsNumber w → Comes y up v
       → Runs 6 (rule_tokens up)
-      (page ds (whole_value up ∷ whole_value w ∷ st) (drawing f (pos 0) y path (pos 900)) saved ps pages)
-      (page ds st (drawing f (pos 0) y ((path ++ move f (pos 0) v ∷ []) ++ line f w v ∷ []) (pos 900)) saved ps pages)
+      (page ds (whole_value up ∷ whole_value w ∷ st) (drawing f (pos 0) y path small_height) saved ps pages)
+      (page ds st (drawing f (pos 0) y ((path ++ move f (pos 0) v ∷ []) ++ line f w v ∷ []) small_height) saved ps
+      pages)
   next_rule {w} {up = up} {path = path} n c =
       both_runs (pushes (pos 0 ∷ up ∷ []))
       (both_runs (moves made no_way c) (lines made (has_path path _) (from_zero w n) c))

@@ -16,6 +16,7 @@ use Rattle.ps_steps.specs.State.{State, Names}
 use Rattle.ps_steps.specs.State.{first_graphics}
 use Rattle.ps_steps.specs.Operators.{went, same, scaled, with_factors, grestore_op, scale_op, translate_op}
 use Rattle.ps_steps.specs.Operators.{setlinewidth_op, showpage_op}
+use Rattle.ps_paint.specs.Distances.{line_width, small_height}
 use Rattle.ps_paint.specs.PaintOf.{to_x, to_y}
 use Rattle.ps_paint.proofs.Bodies.{Made, pg_body}
 use Rattle.ps_paint.proofs.Scales.{near}
@@ -73,7 +74,8 @@ module _ {f : Frame} {ds : Names} (made : Made f ds) where
       let hundredth : int_div (pos 100 *ℤ pos f.scale) (pos 100) ≡ pos f.scale = omega (arith, ints) in
       let across : x ≡ to_x f (pos 0) = omega (arith, ints) in let above : y ≡ to_y f (pos 0) = omega (arith, ints) in
       let run : Runs 17 (pg_body f) (between ds pages)
-      (page ds [] (record first_graphics { scale = pos f.scale; x = x; y = y; font = pos 900; line = pos 60 })
+      (page ds []
+      (record first_graphics { scale = pos f.scale; x = x; y = y; font = small_height; line = pos line_width })
       (first_graphics ∷ []) [] pages)
       =
       both_runs (saves made)
@@ -81,8 +83,8 @@ module _ {f : Frame} {ds : Names} (made : Made f ds) where
       (both_runs
       (acts translate_op (made.free translate_op) (is_in_range (x ∷ y ∷ []) _ (rw (near_left, near_bottom) refl)))
       (both_runs (scales f.scale (pos f.scale) whole some hundredth near_scale)
-      (both_runs (pushes (pos 60 ∷ []))
-      (both_runs (acts setlinewidth_op (made.free setlinewidth_op) refl) (sets_font made (pos 900) refl)))))))
+      (both_runs (pushes (pos line_width ∷ []))
+      (both_runs (acts setlinewidth_op (made.free setlinewidth_op) refl) (sets_font made small_height refl)))))))
       in rw (across, above) at run
 
   -- the two lines that begin a page

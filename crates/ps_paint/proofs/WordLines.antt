@@ -25,6 +25,7 @@ use Rattle.ps_steps.specs.Near.{is_near}
 use Rattle.ps_steps.specs.Tokens.{string_front}
 use Rattle.ps_steps.specs.State.{State, Names}
 use Rattle.ps_steps.specs.Operators.{show_op, findfont_op, scalefont_op, setfont_op, all_near}
+use Rattle.ps_paint.specs.Distances.{big_height, small_height}
 use Rattle.ps_paint.specs.PaintOf.{move, words_paint, mark_paints, font_height}
 use Rattle.ps_paint.proofs.Bodies.{Made, size_body, shown_tokens, font_tokens}
 use Rattle.ps_paint.proofs.Scales.{Comes, from_zero, from_number, near_size}
@@ -111,7 +112,7 @@ module _ {f : Frame} {ds : Names} (made : Made f ds) where
       both_runs (saves made) (places_words made Size.Small x y words cx cy cp cq)
   words_runs Size.Big x y words st saved ps pages cx cy cp cq =
       both_runs (saves made)
-      (both_runs (sets_font made {g = corner f (pos 900)} (pos 1600) refl)
+      (both_runs (sets_font made {g = corner f small_height} big_height refl)
       (places_words made Size.Big x y words cx cy cp cq))
 
   pub words_drawn : (size : Size) (y x dx dy : ℤ) (words : List ℕ)

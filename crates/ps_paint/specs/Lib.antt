@@ -1,2 +1,3 @@
+pub mod Distances
 pub mod PaintOf
 pub mod Laws

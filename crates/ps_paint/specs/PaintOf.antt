@@ -23,6 +23,7 @@ use Rattle.ps_text.specs.declared.sheet.Staff.{Staff}
 use Rattle.ps_text.specs.declared.sheet.Item.{Item}
 use Rattle.ps_text.specs.declared.sheet.Page.{Page}
 use Rattle.ps_text.specs.declared.sheet.Sheet.{Sheet}
+use Rattle.ps_paint.specs.Distances.{big_height, line_width, small_height}
 use Rattle.ps_steps.specs.declared.paint.{Seg.Seg, Paint.Paint, PagePaint.PagePaint}
 
 -- the painted place of an abscissa and of a height of a page: 100 times the margin, plus the percentage of the scale
@@ -43,10 +44,6 @@ line f x y = Seg.Line (to_x f x) (to_y f y)
 abbrev pub curve : Frame → ℤ → ℤ → ℤ → ℤ → ℤ → ℤ → Seg
 curve f a b c d x y = Seg.Curve (to_x f a) (to_y f b) (to_x f c) (to_y f d) (to_x f x) (to_y f y)
 
--- the width of lines, in u
-abbrev pub line_width : ℕ
-line_width = 60
-
 abbrev pub stroked : Frame → List Seg → Paint
 stroked f path = Paint.Stroke (pos line_width *ℤ pos f.scale) path
 
@@ -56,8 +53,8 @@ filled_paint path = Paint.Fill (path ++ Seg.Close ∷ [])
 
 -- the height of words, in u
 abbrev pub font_height : Size → ℤ
-font_height Size.Small = pos 900
-font_height Size.Big = pos 1600
+font_height Size.Small = small_height
+font_height Size.Big = big_height
 
 -- words that begin at (x, y)
 abbrev pub words_paint : Frame → Size → ℤ → ℤ → List ℕ → Paint

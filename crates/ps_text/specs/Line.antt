@@ -21,17 +21,23 @@ unfoldable pub stem_line : ℤ → ℤ → ℤ → ℤ → ℤ → List ℕ
 stem_line x dx from to y = numbers (dx ∷ to ∷ dx ∷ from ∷ x ∷ y ∷ []) ++ codes "st"
 
 -- the points at the two ends of a beam or an arc, and those above them
-unfoldable pub ends_of : ℤ → ℤ → ℤ → ℤ → Ends
-ends_of y from to rise =
-    record { left = y +ℤ from; left_above = (y +ℤ from) +ℤ rise; right = y +ℤ to; right_above = (y +ℤ to) +ℤ rise }
+unfoldable pub ends_of : ℤ → ℤ → ℤ → ℤ → ℤ → ℤ → Ends
+ends_of y x1 x2 from to rise = record {
+  x1 = x1;
+  x2 = x2;
+  left = y +ℤ from;
+  left_above = (y +ℤ from) +ℤ rise;
+  right = y +ℤ to;
+  right_above = (y +ℤ to) +ℤ rise;
+}
 
 -- the point above the left end, at p, the one above the right end, at q, the right end and the left end
-unfoldable pub points : ℤ → ℤ → ℤ → ℤ → Ends → List ℕ
-points p q x1 x2 e = numbers (p ∷ e.left_above ∷ q ∷ e.right_above ∷ x2 ∷ e.right ∷ x1 ∷ e.left ∷ [])
+unfoldable pub points : ℤ → ℤ → Ends → List ℕ
+points p q e = numbers (p ∷ e.left_above ∷ q ∷ e.right_above ∷ e.x2 ∷ e.right ∷ e.x1 ∷ e.left ∷ [])
 
 -- the four corners of a beam
 unfoldable pub beam_line : Way → ℤ → ℤ → ℤ → ℤ → ℤ → List ℕ
-beam_line way x1 x2 from to y = points x1 x2 x1 x2 (ends_of y from to (pos beam_thickness)) ++ way_name way
+beam_line way x1 x2 from to y = points x1 x2 (ends_of y x1 x2 from to (pos beam_thickness)) ++ way_name way
 
 -- a quarter of the way from x1 to x2
 abbrev pub quarter : ℤ → ℤ → ℤ
@@ -40,7 +46,7 @@ quarter x1 x2 = int_div (x2 -ℤ x1) (pos 4)
 -- an arc has its inner points a quarter of the way from its ends
 unfoldable pub arc_line : ℤ → ℤ → ℤ → ℤ → ℤ → ℤ → List ℕ
 arc_line x1 x2 from to bulge y =
-    points (x1 +ℤ quarter x1 x2) (x2 -ℤ quarter x1 x2) x1 x2 (ends_of y from to bulge) ++ codes "ac"
+    points (x1 +ℤ quarter x1 x2) (x2 -ℤ quarter x1 x2) (ends_of y x1 x2 from to bulge) ++ codes "ac"
 
 -- the line of a mark on a staff at y
 abbrev pub mark_line : ℤ → PageMark → List ℕ

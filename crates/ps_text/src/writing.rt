@@ -1,6 +1,7 @@
-ghost use Rattle.std.specs.Prelude.{◌≡◌, ◌++◌, ◌↔◌, ◌≤ℤ◌, ◌+ℤ◌, ◌-ℤ◌, pos, IfOk, OnOk, IsTrue, MatchOption, length};
-ghost use Rattle.mus_units.specs.Distances.{beam_thickness};
-ghost use Rattle.ps_text.specs.Line.{mark_line, points, ends_of, quarter, beam_line, arc_line};
+ghost use Rattle.std.specs.Prelude.{◌≡◌, ◌++◌, ◌↔◌, ◌≤ℤ◌, ◌+ℤ◌, ◌-ℤ◌, pos, IfOk, OnOk, IsTrue, MatchOption};
+ghost use Rattle.std.specs.Prelude.{codes, length};
+ghost use Rattle.ps_text.specs.Line.{mark_line, points, ends_of, quarter};
+ghost use Rattle.ps_text.specs.Names.{way_name};
 ghost use Rattle.ps_text.specs.Range.{IsPageMark, IsSpan, IsStretch};
 
 use crate::fields::{LineEnd, put_line, put_words};
@@ -15,6 +16,8 @@ use std::alloc::Global;
 /// The points at the two ends of a beam or an arc, and those above them.
 #[derive(Clone, Copy, PartialEq, Eq)]
 pub struct Ends {
+    pub x1: i64,
+    pub x2: i64,
     pub left: i64,
     pub left_above: i64,
     pub right: i64,
@@ -24,11 +27,13 @@ pub struct Ends {
 #[tactic(auto, using(crate::proofs::Signs::as_passed), unfolding(crate::specs::Line::ends_of))]
 fn ends_of(y: i64, x1: i64, x2: i64, from: i64, to: i64, rise: i64) -> Ends
     requires { IsSpan y x1 x2 from to rise }
-    ensures { result ≡ ends_of y from to rise }
+    ensures { result ≡ ends_of y x1 x2 from to rise }
 {
     let left = moved(y, from);
     let right = moved(y, to);
     Ends {
+        x1,
+        x2,
         left,
         left_above: moved(left, rise),
         right,
@@ -39,40 +44,32 @@ fn ends_of(y: i64, x1: i64, x2: i64, from: i64, to: i64, rise: i64) -> Ends
 /// Adds the four points of a beam or an arc: the one above the left end, at `p`, the one above the
 /// right end, at `q`, the right end and the left one; and a name of two letters.
 #[tactic(auto, using(crate::proofs::Signs::as_passed), unfolding(crate::specs::Line::points))]
-fn put_points(
-    out: &mut Text,
-    p: i64,
-    q: i64,
-    x1: i64,
-    x2: i64,
-    e: &Ends,
-    name: &[u8],
-) -> Result<(), Memory>
+fn put_points(out: &mut Text, p: i64, q: i64, e: &Ends, name: &[u8]) -> Result<(), Memory>
     requires { length name.now ≡ 2 }
-    ensures { OnOk result (out.new ≡ out.old ++ points p q x1 x2 e.now ++ name.now) }
+    ensures { OnOk result (out.new ≡ out.old ++ points p q e.now ++ name.now) }
 {
     put_line(
         out,
-        &[p, e.left_above, q, e.right_above, x2, e.right, x1, e.left],
+        &[
+            p,
+            e.left_above,
+            q,
+            e.right_above,
+            e.x2,
+            e.right,
+            e.x1,
+            e.left,
+        ],
         name,
     )
 }
 
-#[tactic(auto, using(crate::proofs::Signs::as_passed), unfolding(crate::specs::Line::beam_line))]
-fn put_beam(
-    out: &mut Text,
-    way: Way,
-    x1: i64,
-    x2: i64,
-    from: i64,
-    to: i64,
-    y: i64,
-) -> Result<(), Memory>
-    requires { IsSpan y x1 x2 from to (pos beam_thickness) }
-    ensures { OnOk result (out.new ≡ out.old ++ beam_line way x1 x2 from to y) }
+/// Adds the line of a beam: its corners are its ends and the points right above them.
+#[tactic(auto, using(crate::proofs::Signs::as_passed))]
+fn put_beam(out: &mut Text, way: Way, e: &Ends) -> Result<(), Memory>
+    ensures { OnOk result (out.new ≡ out.old ++ points e.now.x1 e.now.x2 e.now ++ way_name way) }
 {
-    let ends = ends_of(y, x1, x2, from, to, BEAM_THICKNESS);
-    put_points(out, x1, x2, x1, x2, &ends, way_name_of(way))
+    put_points(out, e.x1, e.x2, e, way_name_of(way))
 }
 
 /// Returns the abscissa a quarter of the way from one to another.
@@ -99,28 +96,23 @@ fn before_end(x1: i64, x2: i64) -> i64
     x2 - quarter(x1, x2)
 }
 
-#[tactic(auto, using(crate::proofs::Signs::as_passed), unfolding(crate::specs::Line::arc_line))]
-fn put_arc(
-    out: &mut Text,
-    x1: i64,
-    x2: i64,
-    from: i64,
-    to: i64,
-    bulge: i64,
-    y: i64,
-) -> Result<(), Memory>
-    requires { IsSpan y x1 x2 from to bulge }
-    ensures { OnOk result (out.new ≡ out.old ++ arc_line x1 x2 from to bulge y) }
+/// Adds the line of an arc: its inner points are a quarter of the way from its ends.
+#[tactic(auto, using(crate::proofs::Signs::as_passed))]
+fn put_arc(out: &mut Text, e: &Ends) -> Result<(), Memory>
+    requires { IsStretch e.now.x1 e.now.x2 }
+    ensures { OnOk result (out.new ≡ out.old
+        ++ points (e.now.x1 +ℤ quarter e.now.x1 e.now.x2) (e.now.x2 -ℤ quarter e.now.x1 e.now.x2) e.now
+        ++ codes "ac") }
 {
-    let p = after_start(x1, x2);
-    let q = before_end(x1, x2);
-    let ends = ends_of(y, x1, x2, from, to, bulge);
-    put_points(out, p, q, x1, x2, &ends, b"ac")
+    let p = after_start(e.x1, e.x2);
+    let q = before_end(e.x1, e.x2);
+    put_points(out, p, q, e, b"ac")
 }
 
 /// Adds the line of a mark on a staff, without the LF that ends it.
 #[tactic(auto, using(crate::proofs::Signs::as_passed, crate::proofs::Letters::letters_of_glyph), //
-unfolding(crate::specs::Line::glyph_line, crate::specs::Line::words_line, crate::specs::Line::stem_line))]
+unfolding(crate::specs::Line::glyph_line, crate::specs::Line::words_line, crate::specs::Line::stem_line, //
+crate::specs::Line::ends_of))]
 pub fn put_op(out: &mut Text, end: &LineEnd, m: &PageMark) -> Result<(), Memory>
     requires { IsPageMark end.now.y m.now }
     ensures { OnOk result (out.new ≡ out.old ++ mark_line end.now.y m.now) }
@@ -153,22 +145,22 @@ pub fn put_op(out: &mut Text, end: &LineEnd, m: &PageMark) -> Result<(), Memory>
             x2,
             from,
             to,
-        } => put_beam(out, *way, *x1, *x2, i64::from(*from), i64::from(*to), end.y),
+        } => {
+            let from = i64::from(*from);
+            let ends = ends_of(end.y, *x1, *x2, from, i64::from(*to), BEAM_THICKNESS);
+            put_beam(out, *way, &ends)
+        }
         PageMark::Arc {
             x1,
             x2,
             from,
             to,
             bulge,
-        } => put_arc(
-            out,
-            *x1,
-            *x2,
-            i64::from(*from),
-            i64::from(*to),
-            i64::from(*bulge),
-            end.y,
-        ),
+        } => {
+            let from = i64::from(*from);
+            let ends = ends_of(end.y, *x1, *x2, from, i64::from(*to), i64::from(*bulge));
+            put_arc(out, &ends)
+        }
     }
 }
 

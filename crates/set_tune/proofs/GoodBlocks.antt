@@ -1,8 +1,9 @@
 -- The blocks of a tune have good heights.
-use Rattle.std.proofs.Common.{ℕ, ◌≤◌, ◌^◌, pos, ◌≤ℤ◌, Bool, List, [], ◌∷◌, ◌++◌, arith}
+use Rattle.std.proofs.Common.{ℕ, ◌≤◌, pos, ◌≤ℤ◌, Bool, List, [], ◌∷◌, ◌++◌, arith}
 use Rattle.std.proofs.lemmas.Int.{ints}
 use Rattle.std.proofs.lemmas.List.Elements.{All-head, All-tail}
 use Rattle.std.specs.List.{All}
+use Rattle.lay_pages.specs.Distances.{tallest_block}
 use Rattle.lay_pages.specs.declared.stacking.Heights.{Heights}
 use Rattle.lay_pages.specs.declared.titles.TitleRow.{TitleRow}
 use Rattle.lay_pages.specs.Filling.{AreGoodBlocks}
@@ -17,7 +18,7 @@ good_systems (h ∷ hs) all =
 low_height : (height : ℕ) → pos 0 ≤ℤ block_height height
 low_height height = omega (arith, ints)
 
-high_height : (height : ℕ) → block_height height ≤ℤ pos (2 ^ 40)
+high_height : (height : ℕ) → block_height height ≤ℤ pos tallest_block
 high_height height = omega (arith, ints)
 
 pub good_blocks : (rows : List TitleRow) (height : ℕ) (keep : Bool) (heights : List Heights)

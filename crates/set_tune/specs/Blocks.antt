@@ -1,19 +1,20 @@
 -- The blocks of a tune: its title block, if it has a row, tied to the system below it if there is one; and its
 -- systems.
-use Rattle.std.specs.Prelude.{ℕ, ◌^◌, min, ℤ, pos, ◌≤ℤ◌, Bool, true, false, List, [], ◌∷◌, ◌++◌, map}
+use Rattle.std.specs.Prelude.{ℕ, min, ℤ, pos, ◌≤ℤ◌, Bool, true, false, List, [], ◌∷◌, ◌++◌, map}
+use Rattle.lay_pages.specs.Distances.{tallest_block}
 use Rattle.lay_pages.specs.declared.filling.Block.{Block}
 use Rattle.lay_pages.specs.declared.stacking.Heights.{Heights}
 use Rattle.lay_pages.specs.declared.titles.TitleRow.{TitleRow}
 use Rattle.lay_pages.specs.declared.titles.TitleBlock.{TitleBlock}
 
--- a system's height is 0 to 2^40
+-- a system is no higher than the tallest block
 pub record HasGoodHeight (h : Heights) : Type 0 where
   pub low : pos 0 ≤ℤ h.height
-  pub high : h.height ≤ℤ pos (2 ^ 40)
+  pub high : h.height ≤ℤ pos tallest_block
 
--- a block counts as at most 2^40 u high
+-- a block counts as at most as high as the tallest one
 abbrev pub block_height : ℕ → ℤ
-block_height height = pos (min height (2 ^ 40))
+block_height height = pos (min height tallest_block)
 
 abbrev pub is_some_list : List Heights → Bool
 is_some_list [] = false

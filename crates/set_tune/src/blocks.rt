@@ -3,12 +3,10 @@ ghost use Rattle.lay_pages.specs.Filling.{AreGoodBlocks};
 ghost use Rattle.set_tune.specs.Blocks.{HasGoodHeight, block_height, blocks_of, is_some_list, system_blocks};
 ghost use Rattle.set_tune.specs.Blocks.{title_blocks};
 
+use lay_pages::distances::TALLEST_BLOCK;
 use lay_pages::{Block, Heights, TitleBlock};
 use mus_units::{Memory, Row};
 use std::alloc::Global;
-
-/// The greatest height that counts for a block, in u.
-const HIGHEST: u64 = 1_099_511_627_776;
 
 /// Returns the blocks of a tune on a page: the title block, if it has a row, tied to the system below it if there is
 /// one; and each system. A title block of more than 2^40 u counts as 2^40 u high.
@@ -40,7 +38,7 @@ fn is_some_list(heights: &[Heights]) -> bool
 fn block_height(height: u64) -> i64
     ensures { result ≡ block_height height }
 {
-    height.min(HIGHEST) as i64
+    height.min(TALLEST_BLOCK) as i64
 }
 
 fn title_blocks(alloc: Global, title: &TitleBlock, keep: bool) -> Result<Row<Block>, Memory>

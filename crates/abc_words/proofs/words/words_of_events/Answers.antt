@@ -5,23 +5,26 @@ use Rattle.abc_words.specs.Verses.{verse_count}
 use Rattle.abc_words.specs.Words.{event_words, music_rows, words_of_events}
 use Rattle.abc_words.proofs.OwnLaws.{no_words_elsewhere, own_words}
 use Rattle.abc_words.proofs.Places.{made_more}
-use Rattle.abc_words.proofs.WordLaws.{all_long, at_event, verse_places}
+use Rattle.abc_words.proofs.VerseLaws.{counted}
+use Rattle.abc_words.proofs.WordLaws.{all_long, at_event, rows_of_voice, verse_places}
 use Rattle.abc_words.proofs.words.words_of_events.Goals as goal
 
 pub loop-event-preserved : goal.loop-event-preserved
 loop-event-preserved c =
-    made_more
-    (event_words (music_rows c.args.id.now c.args.unnamed.now c.args.items.now c.args.notes.now)
-    (verse_count c.args.id.now c.args.unnamed.now c.args.items.now))
-    c.loop-event.event c.loop-event.words c.push.new.self c.in_ok-words_at.field-0
-    (at_event (music_rows c.args.id.now c.args.unnamed.now c.args.items.now c.args.notes.now)
-    (verse_count c.args.id.now c.args.unnamed.now c.args.items.now) c.args.count c.loop-event.event
-    c.in_ok-all.all c.in_ok-words_at.field-0 c.loop-event-test.true
+    let id = c.args.id.now in let unnamed = c.args.unnamed.now in let items = c.args.items.now in
+    let found = c.in_ok-found.found in let count = c.args.count in
+    let rows = music_rows id unnamed items c.args.notes.now in let verses = verse_count id unnamed items in
+    let by_rows =
+    rows_of_voice id unnamed items c.args.notes.now found
+    c.in_ok-found.ensures.list c.in_ok-found.ensures.ends c.in_ok-found.ensures.rows in
+    let number =
+    counted id unnamed items found c.in_ok-verses.verses c.in_ok-verses.ensures
+    c.in_ok-found.ensures.list c.in_ok-found.ensures.rows in
+    made_more (event_words rows verses) c.loop-event.event c.loop-event.words c.push.new.self c.in_ok-words_at.field-0
+    (at_event rows verses count c.loop-event.event c.in_ok-all.all c.in_ok-words_at.field-0 c.loop-event-test.true
     (c.in_ok-all.ensures
-    ∙ ap (λ n.
-    map (verse_places (music_rows c.args.id.now c.args.unnamed.now c.args.items.now c.args.notes.now) c.args.count)
-    (range_with_len 0 n))
-    c.in_ok-verses.ensures.value)
+    ∙ (ap (λ rs. map (verse_places rs count) (range_with_len 0 c.in_ok-verses.verses)) by_rows
+    ∙ ap (λ n. map (verse_places rows count) (range_with_len 0 n)) number))
     (c.in_ok-words_at.ensures ∙ ap (map (λ ws. slice_index_or ws c.loop-event.event None)) c.as_slice.ensures))
     c.loop-event.invariant c.in_ok-push.ensures.ok
 

@@ -1,6 +1,7 @@
-use Rattle.std.proofs.Common.{length, length-drop, ◌∙◌, ◌+◌, ◌++◌, ◌∷◌, [], ap, arith}
+use Rattle.std.proofs.Common.{◌≤◌, rules, sym, subst, length, length-drop, ◌∙◌, ◌+◌, ◌++◌, ◌∷◌, [], ap, arith}
 use Rattle.mus_marks.specs.Staff.{verses_on}
 use Rattle.mus_marks.specs.System.{is_drawn_lower}
+use Rattle.mus_marks.proofs.Fitting.{few_verses}
 use Rattle.mus_marks.proofs.Groups.{group_turn, rest_from}
 use Rattle.mus_marks.proofs.Verses.{verses_drop, verses_take}
 use Rattle.lay_columns.proofs.staves.staff_verses.Goals as goal
@@ -28,4 +29,14 @@ staves-preserved c =
           let left = length-drop (n + 1) rest in
           let before = c.staves.invariant.shorter in
           omega (arith, less, left, before);
+    }
+
+pub staves-init : goal.staves-init
+staves-init c =
+    record {
+      verses = search rules;
+      few =
+          subst (λ vs. verses_on vs ≤ 128) (sym c.args.drawn.now.drawn)
+          (few_verses c.args.drawn.now.score.now c.args.drawn.now.good);
+      shorter = omega arith;
     }

@@ -4,9 +4,10 @@ use Rattle.lay_columns.proofs.staves.staff_verses.Given as goal
 
 abbrev pub invariant-staves : goal.invariant-staves
 invariant-staves l = record {
-  verses : l.verses ++ map verses_on (grouped is_drawn_lower l.rest) ≡ map verses_on (grouped is_drawn_lower l.voices);
+  verses : l.verses ++ map verses_on (grouped is_drawn_lower l.rest)
+      ≡ map verses_on (grouped is_drawn_lower l.drawn.voices.now);
   few : verses_on l.rest ≤ 128;
-  shorter : length l.rest ≤ length l.voices;
+  shorter : length l.rest ≤ length l.drawn.voices.now;
 }
 
 abbrev pub decreases-staves : goal.decreases-staves

@@ -30,7 +30,7 @@ returns-clause-stacked c =
 
 pub returns-clause-spots : goal.returns-clause-spots
 returns-clause-spots c =
-    let few : c.len-groups.result ≤ 8388608 = search rules in
+    let few : c.len-groups.result ≤ most_groups = search rules in
     parted refl
     (subst (λ hs. length hs ≤ most_groups) c.in_ok-heights.ensures.value
     (subst (λ n. n ≤ most_groups) c.len-groups.ensures few))

@@ -1,13 +1,15 @@
-use Rattle.std.proofs.Common.{◌<◌, arith, subst}
+use Rattle.std.proofs.Common.{◌<◌, ◌≤◌, All, arith, subst, sym}
 use Rattle.lay_rows.specs.Tables.{IsForceTable}
-use Rattle.lay_rows.proofs.Tables.{table_of_bars, table_low}
+use Rattle.lay_rows.proofs.Tables.{bars_within, rows_of_parts, table_low, table_of_rows}
 use Rattle.lay_rows.proofs.maker.make_rows.Goals.{In_ok-rows}
 use Rattle.lay_rows.proofs.maker.make_rows.Goals as goal
 
 table : (g : _) (c : In_ok-rows g) → IsForceTable (g.M.RowMaker.is_row c.args.maker.now) c.args.n c.in_ok-rows.rows
 table g c =
-    table_of_bars (g.M.RowMaker.is_row c.args.maker.now) c.args.n c.in_ok-bars.bars c.in_ok-rows.rows
-    c.in_ok-bars.ensures.count c.in_ok-bars.ensures.each c.in_ok-rows.ensures
+    subst (λ rows. IsForceTable (g.M.RowMaker.is_row c.args.maker.now) c.args.n rows) (sym c.in_ok-rows.ensures)
+    (table_of_rows (g.M.RowMaker.is_row c.args.maker.now) c.args.n _
+    (rows_of_parts (g.M.RowMaker.is_row c.args.maker.now) c.in_ok-parts.parts c.in_ok-made.made 0 c.args.n
+    c.in_ok-parts.ensures c.in_ok-made.ensures))
 
 pub invariant_of-result : goal.invariant_of-result
 invariant_of-result g c =
@@ -25,3 +27,8 @@ invariant_of-result g c =
 
 pub returns : goal.returns
 returns g c = table g (goal.at.returns g c).In_ok-rows
+
+pub work_all-requires-clause-takes : goal.work_all-requires-clause-takes
+work_all-requires-clause-takes g c _ _ =
+    subst (λ n. All (λ part. part.to ≤ n) c.in_ok-parts.parts) c.requires.bars
+    (bars_within c.in_ok-parts.parts 0 c.args.n c.in_ok-parts.ensures)

@@ -12,13 +12,14 @@ use Rattle.lay_spans.proofs.rows.row_from.Goals as goal
 
 columns : (g : _) (c : After-as_slice-cols g)
     → map (λ s. s.column.now) c.as_slice-cols.result.now
-    ≡ span_columns c.args.measures.now.starts.now c.args.measures.now.others.now c.args.a (c.loop-m.m + 1)
+    ≡ span_columns c.args.maker.now.measures.now.starts.now c.args.maker.now.measures.now.others.now c.args.a
+    (c.loop-m.m + 1)
 columns g c =
     ap (λ seen. map (λ s. s.column.now) seen) c.as_slice-cols.ensures
-    ∙ seen_more (λ s. s.column.now) c.loop-m.seen c.see.new.seen c.args.measures.now.starts.now
-    c.args.measures.now.others.now c.args.a c.loop-m.m
+    ∙ seen_more (λ s. s.column.now) c.loop-m.seen c.see.new.seen c.args.maker.now.measures.now.starts.now
+    c.args.maker.now.measures.now.others.now c.args.a c.loop-m.m
     (let l = c.loop-m.invariant.count in omega arith) (let l = c.loop-m-test.true in omega arith)
-    c.args.measures.now.measured.same c.loop-m.invariant.columns
+    c.args.maker.now.measures.now.measured.same c.loop-m.invariant.columns
     (c.in_ok-see.ensures ∙ ap (λ r. map (λ s. s.column.now) c.loop-m.seen ++ r) c.measure.ensures)
 
 -- what the search wrote is in the borrowed slices
@@ -31,19 +32,22 @@ at_is g c =
     (c.greatest_force.auto.at ∙ (ap (λ at. length at) c.deref_mut.ensures.value ∙ sym c.resize.new.self.ok.0))
 
 -- no longer span fits
-pub returns-in_default : goal.returns-in_default
-returns-in_default g c =
-    let b = (goal.at.returns-in_default g c).After-as_slice-cols in
-    stops_at g.C.Spaced.reach_of g.C.Spring.length_of c.args.measures.now.gaps.list.now c.args.width
-    c.args.measures.now.starts.now c.args.measures.now.others.now
-    (λ b. slice_index_or c.args.marks.now b false)
-    c.args.a c.loop-m.m c.loop-m.row c.args.measures.now.measured c.requires.inside
+pub returns-in_default-clause-row : goal.returns-in_default-clause-row
+returns-in_default-clause-row g c =
+    let b = (goal.at.returns-in_default-clause-row g c).After-as_slice-cols in
+    stops_at g.C.Spaced.reach_of g.C.Spring.length_of c.args.maker.now.measures.now.gaps.list.now c.args.maker.now.width
+    c.args.maker.now.measures.now.starts.now c.args.maker.now.measures.now.others.now
+    (λ b. slice_index_or c.args.maker.now.marks.now b false)
+    c.args.a c.loop-m.m c.loop-m.row c.args.maker.now.measures.now.measured c.requires.inside
     (let l = c.loop-m-test.true in omega arith)
     c.loop-m.invariant.count c.loop-m.invariant.each
-    (never_stands (λ s. s.column.now) g.C.Spaced.reach_of g.C.Spring.length_of c.args.measures.now.gaps.list.now
-    c.args.width
+    (never_stands (λ s. s.column.now) g.C.Spaced.reach_of g.C.Spring.length_of
+    c.args.maker.now.measures.now.gaps.list.now
+    c.args.maker.now.width
     c.as_slice-cols.result.now
-    (span_columns c.args.measures.now.starts.now c.args.measures.now.others.now c.args.a (c.loop-m.m + 1)) (columns g b)
+    (span_columns c.args.maker.now.measures.now.starts.now c.args.maker.now.measures.now.others.now c.args.a
+    (c.loop-m.m + 1))
+    (columns g b)
     c.in_default.ensures.none)
 
 count : (g : _) (c : In_ok-push g) → c.args.a + length c.push.new.self ≡ c.loop-m.m + 1
@@ -56,28 +60,34 @@ count g c =
 -- the span with this measure
 module _ (g : _) (c : In_ok-push g)
     (seen : map (λ s. s.column.now) c.as_slice-cols.result.now
-    ≡ span_columns c.args.measures.now.starts.now c.args.measures.now.others.now c.args.a (c.loop-m.m + 1)) where
+    ≡ span_columns c.args.maker.now.measures.now.starts.now c.args.maker.now.measures.now.others.now c.args.a
+    (c.loop-m.m + 1)) where
   abbrev Has : ℕ → ℕ → Type 0
   Has b f =
-      HasForce g.C.Spaced.reach_of g.C.Spring.length_of c.args.measures.now.gaps.list.now c.args.width
-      c.args.measures.now.starts.now c.args.measures.now.others.now
-      (λ b. slice_index_or c.args.marks.now b false) c.args.a b f
+      HasForce g.C.Spaced.reach_of g.C.Spring.length_of c.args.maker.now.measures.now.gaps.list.now
+      c.args.maker.now.width
+      c.args.maker.now.measures.now.starts.now c.args.maker.now.measures.now.others.now
+      (λ b. slice_index_or c.args.maker.now.marks.now b false) c.args.a b f
 
-  force : IsForce g.C.Spaced.reach_of g.C.Spring.length_of c.args.measures.now.gaps.list.now c.args.width
-      (span_columns c.args.measures.now.starts.now c.args.measures.now.others.now c.args.a (c.loop-m.m + 1))
+  force : IsForce g.C.Spaced.reach_of g.C.Spring.length_of c.args.maker.now.measures.now.gaps.list.now
+      c.args.maker.now.width
+      (span_columns c.args.maker.now.measures.now.starts.now c.args.maker.now.measures.now.others.now c.args.a
+      (c.loop-m.m + 1))
       c.in-Some.force
   force =
-      force_of (λ s. s.column.now) g.C.Spaced.reach_of g.C.Spring.length_of c.args.measures.now.gaps.list.now
-      c.args.width c.loop-m.most
+      force_of (λ s. s.column.now) g.C.Spaced.reach_of g.C.Spring.length_of c.args.maker.now.measures.now.gaps.list.now
+      c.args.maker.now.width c.loop-m.most
       c.as_slice-cols.result.now
-      (span_columns c.args.measures.now.starts.now c.args.measures.now.others.now c.args.a (c.loop-m.m + 1))
+      (span_columns c.args.maker.now.measures.now.starts.now c.args.maker.now.measures.now.others.now c.args.a
+      (c.loop-m.m + 1))
       c.in-Some.force seen
       c.loop-m.invariant.most
       c.in-Some.ensures.bound c.in-Some.ensures.fits c.in-Some.ensures.greatest
-      (still_above g.C.Spaced.reach_of g.C.Spring.length_of c.args.measures.now.gaps.list.now c.args.width
-      c.loop-m.most c.args.measures.now.starts.now
-      c.args.measures.now.others.now c.args.a c.loop-m.m
-      c.args.measures.now.measured c.requires.inside (let l = c.loop-m-test.true in omega arith)
+      (still_above g.C.Spaced.reach_of g.C.Spring.length_of c.args.maker.now.measures.now.gaps.list.now
+      c.args.maker.now.width
+      c.loop-m.most c.args.maker.now.measures.now.starts.now
+      c.args.maker.now.measures.now.others.now c.args.a c.loop-m.m
+      c.args.maker.now.measures.now.measured c.requires.inside (let l = c.loop-m-test.true in omega arith)
       c.loop-m.invariant.above)
 
   has : Has (c.loop-m.m + 1) c.in-Some.force
@@ -87,18 +97,20 @@ module _ (g : _) (c : In_ok-push g)
   each =
       subst (λ row. (k : ℕ) → k < length row → Has (c.args.a + 1 + k) (slice_index_or row k 0))
       (sym c.in_ok-push.ensures.ok)
-      (forces_more g.C.Spaced.reach_of g.C.Spring.length_of c.args.measures.now.gaps.list.now c.args.width
-      c.args.measures.now.starts.now
-      c.args.measures.now.others.now (λ b. slice_index_or c.args.marks.now b false)
+      (forces_more g.C.Spaced.reach_of g.C.Spring.length_of c.args.maker.now.measures.now.gaps.list.now
+      c.args.maker.now.width
+      c.args.maker.now.measures.now.starts.now
+      c.args.maker.now.measures.now.others.now (λ b. slice_index_or c.args.maker.now.marks.now b false)
       c.args.a c.loop-m.m c.loop-m.row c.in-Some.force c.loop-m.invariant.count c.loop-m.invariant.each has)
 
-pub returns-then-marks-m : goal.returns-then-marks-m
-returns-then-marks-m g c =
-    let b = (goal.at.returns-then-marks-m g c).After-as_slice-cols in
-    let pushed = (goal.at.returns-then-marks-m g c).In_ok-push in
-    stops_after g.C.Spaced.reach_of g.C.Spring.length_of c.args.measures.now.gaps.list.now c.args.width
-    c.args.measures.now.starts.now
-    c.args.measures.now.others.now (λ b. slice_index_or c.args.marks.now b false)
+pub returns-then-marks-m-clause-row : goal.returns-then-marks-m-clause-row
+returns-then-marks-m-clause-row g c =
+    let b = (goal.at.returns-then-marks-m-clause-row g c).After-as_slice-cols in
+    let pushed = (goal.at.returns-then-marks-m-clause-row g c).In_ok-push in
+    stops_after g.C.Spaced.reach_of g.C.Spring.length_of c.args.maker.now.measures.now.gaps.list.now
+    c.args.maker.now.width
+    c.args.maker.now.measures.now.starts.now
+    c.args.maker.now.measures.now.others.now (λ b. slice_index_or c.args.maker.now.marks.now b false)
     c.args.a c.loop-m.m c.push.new.self (let l = c.loop-m-test.true in omega arith) (count g pushed)
     (let l = c.loop-m.invariant.count in omega arith)
     (each g pushed (columns g b))
@@ -115,7 +127,7 @@ loop-m-preserved g c =
       count = count g pushed;
       each = each g pushed (columns g b);
       free =
-          free_more (λ b. slice_index_or c.args.marks.now b false) c.args.a c.loop-m.m (search rules)
+          free_more (λ b. slice_index_or c.args.maker.now.marks.now b false) c.args.a c.loop-m.m (search rules)
           c.loop-m.invariant.free;
       most = let b = pressed.bound in omega arith;
       room =
@@ -126,9 +138,11 @@ loop-m-preserved g c =
       placed = rw (at_is g lent) (subst (λ T. T)
           (seen_as (λ s. s.column.now) g.C.Spaced.reach_of g.C.Spring.length_of
           (λ n r l.
-          HasPlaced n r c.args.measures.now.gaps.list.now l c.greatest_force.new.placed c.greatest_force.new.at
+          HasPlaced n r c.args.maker.now.measures.now.gaps.list.now l c.greatest_force.new.placed
+          c.greatest_force.new.at
           c.greatest_force.new.front)
-          c.as_slice-cols.result.now (span_columns c.args.measures.now.starts.now c.args.measures.now.others.now
+          c.as_slice-cols.result.now
+          (span_columns c.args.maker.now.measures.now.starts.now c.args.maker.now.measures.now.others.now
           c.args.a (c.loop-m.m + 1))
           (columns g b))
           c.greatest_force.ensures.placed);
@@ -138,35 +152,39 @@ loop-m-preserved g c =
 pub loop-m-init : goal.loop-m-init
 loop-m-init g c =
     let e : c.args.a - c.args.a ≡ 0 = omega arith in
-    let none : span_columns c.args.measures.now.starts.now c.args.measures.now.others.now c.args.a c.args.a ≡ [] =
-    ap (λ k. flat_map (λ measure. measure) (take k (measures_from c.args.measures.now.starts.now
-    c.args.measures.now.others.now c.args.a))) e in
+    let none : span_columns c.args.maker.now.measures.now.starts.now c.args.maker.now.measures.now.others.now c.args.a
+    c.args.a
+    ≡ [] =
+    ap (λ k. flat_map (λ measure. measure) (take k (measures_from c.args.maker.now.measures.now.starts.now
+    c.args.maker.now.measures.now.others.now c.args.a))) e in
     record {
-      columns = ap (λ seen. map (λ s. s.column.now) seen) c.in_ok-seen.ensures ∙ sym none;
+      columns = ap (λ seen. map (λ s. s.column.now) seen) c.clear-2.ensures.items ∙ sym none;
       count = let row = ap (λ row. length row) c.in_ok-row.ensures in omega arith;
       each = λ k l. let row = ap (λ row. length row) c.in_ok-row.ensures in absurd (omega arith);
       free = λ f l k is. absurd (omega arith);
       most = omega arith;
-      room = ap (λ at. length at) c.in_ok-at.ensures.items ∙ sym (ap (λ cs. length cs) none);
+      room = ap (λ at. length at) c.clear.ensures.items ∙ sym (ap (λ cs. length cs) none);
       placed = c.none.ensures _ _ _ _ _ _;
       above = λ f l k. absurd (omega arith);
     }
 
-pub invariant_of-columns : goal.invariant_of-columns
-invariant_of-columns g c =
+pub greatest_force-requires-clause-some : goal.greatest_force-requires-clause-some
+greatest_force-requires-clause-some g c =
     let count =
-    ap (λ cs. length cs) (columns g (goal.at.invariant_of-columns g c).After-as_slice-cols) in
+    ap (λ cs. length cs) (columns g (goal.at.greatest_force-requires-clause-some g c).After-as_slice-cols) in
     let same = length-map c.as_slice-cols.result.now (λ s. s.column.now) in
-    let some = columns_some c.args.measures.now.starts.now c.args.measures.now.others.now c.args.a (c.loop-m.m + 1)
-    (let l = c.loop-m.invariant.count in omega arith) (c.args.measures.now.measured.begun c.args.a c.requires.inside) in
-    record { some = omega (arith, count, same, some) }
+    let some = columns_some c.args.maker.now.measures.now.starts.now c.args.maker.now.measures.now.others.now c.args.a
+    (c.loop-m.m + 1)
+    (let l = c.loop-m.invariant.count in omega arith)
+    (c.args.maker.now.measures.now.measured.begun c.args.a c.requires.inside) in
+    omega (arith, count, same, some)
 
 pub greatest_force-requires-clause-placed : goal.greatest_force-requires-clause-placed
 greatest_force-requires-clause-placed g c =
-    placed_more (λ s. s.column.now) g.C.Spaced.reach_of g.C.Spring.length_of c.args.measures.now.gaps.list.now
+    placed_more (λ s. s.column.now) g.C.Spaced.reach_of g.C.Spring.length_of c.args.maker.now.measures.now.gaps.list.now
     c.loop-m.placed c.loop-m.at.items c.deref_mut.result.now _ c.loop-m.front c.as_slice-cols.result.now
-    c.args.measures.now.starts.now c.args.measures.now.others.now c.args.a c.loop-m.m
+    c.args.maker.now.measures.now.starts.now c.args.maker.now.measures.now.others.now c.args.a c.loop-m.m
     (let l = c.loop-m.invariant.count in omega arith) (let l = c.loop-m-test.true in omega arith)
-    c.args.measures.now.measured.same
+    c.args.maker.now.measures.now.measured.same
     (columns g (goal.at.greatest_force-requires-clause-placed g c).After-as_slice-cols) c.loop-m.invariant.room
     (c.deref_mut.ensures.value ∙ c.in_ok-resize.ensures.items) c.loop-m.invariant.placed

@@ -9,7 +9,7 @@ invariant-loop-m g l = record {
   columns : map (λ s. s.column.now) l.seen ≡ span_columns l.measures.starts.now l.measures.others.now l.a l.m;
   count : l.a + length l.row ≡ l.m;
   each : (k : ℕ) → k < length l.row
-      → HasForce g.C.Spaced.reach_of g.C.Spring.length_of l.measures.gaps.list.now l.width l.measures.starts.now
+      → HasForce g.C.Spaced.reach_of g.C.Spring.length_of l.measures.gaps.list.now l.maker.width l.measures.starts.now
       l.measures.others.now
       (λ b. slice_index_or l.marks b false) l.a (l.a + 1 + k) (slice_index l.row k);
   free : (f : ℕ) → l.a < f → f < l.m + 1 → slice_index_or l.marks f false ≡ true → ⊥;
@@ -22,7 +22,7 @@ invariant-loop-m g l = record {
       l.at.items l.front;
   above : (f : ℕ) → l.most < f → f ≤ 2048
       → (l.a < l.m)
-      × (FitsAtForce g.C.Spaced.reach_of g.C.Spring.length_of l.measures.gaps.list.now l.width f
+      × (FitsAtForce g.C.Spaced.reach_of g.C.Spring.length_of l.measures.gaps.list.now l.maker.width f
       (span_columns l.measures.starts.now l.measures.others.now l.a l.m)
       → ⊥);
 }

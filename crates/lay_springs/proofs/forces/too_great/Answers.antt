@@ -11,7 +11,7 @@ returns-then-end-from-clause-fits g c =
     let within = c.if-end-from.true in
     let low = c.end_at-end.ensures.begins in
     let high = c.end_at-end.ensures.small in
-    (c.end_at-end.result, c.end_at-end.ensures.end, omega (arith, ints))
+    (c.end_at-end.result.end, c.end_at-end.ensures.end, omega (arith, ints))
 
 pub returns-clause-never : goal.returns-clause-never
 returns-clause-never g c = λ f from small stood.
@@ -23,18 +23,20 @@ returns-clause-never g c = λ f from small stood.
       | inl less ↦ (
           let is : f + (c.args.force - f) ≡ c.args.force = omega arith in
           let near = c.end_at-end.ensures.near
-          (lengths_scale g.C.Spring.length_of c.args.columns.cols.now (length c.args.columns.cols.now)
+          (lengths_scale g.C.Spring.length_of c.args.placing.now.columns.cols.now
+          (length c.args.placing.now.columns.cols.now)
           g.met.C.LinearSpring.scales)
           f (c.args.force - f) c.args.width is stood in
           let far = c.lowered.ensures.past f (c.args.force - f) is (omega arith) from in
           let width = c.from-2.ensures in
           omega (arith, ints))
       | inr up ↦
-          cannot_stand (length c.args.columns.cols.now) (reach_at g.C.Spaced.reach_of c.args.columns.cols.now)
-          c.args.columns.gaps.list.now
-          (length_at g.C.Spring.length_of c.args.columns.cols.now) c.args.width
-          c.args.force f c.args.columns.some
-          (length_rises g.C.Spring.length_of c.args.columns.cols.now c.args.force f
+          cannot_stand (length c.args.placing.now.columns.cols.now)
+          (reach_at g.C.Spaced.reach_of c.args.placing.now.columns.cols.now)
+          c.args.placing.now.columns.gaps.list.now
+          (length_at g.C.Spring.length_of c.args.placing.now.columns.cols.now) c.args.width
+          c.args.force f c.args.placing.now.columns.some
+          (length_rises g.C.Spring.length_of c.args.placing.now.columns.cols.now c.args.force f
           (λ col. g.met.C.Spring.rises col c.args.force f up small))
-          (c.end_at-end.result, c.end_at-end.ensures.end, omega (arith, ints)) stood
+          (c.end_at-end.result.end, c.end_at-end.ensures.end, omega (arith, ints)) stood
     ]

@@ -1,9 +1,11 @@
-use Rattle.std.proofs.{Common.{◌≡◌, ◌-◌, inl, inr, arith}, lemmas.{Bool.cases_lt, Int.ints}}
+use Rattle.std.proofs.{Common.{◌≡◌, ◌-◌, ◌∙◌, sym, w64, inl, inr, arith}, lemmas.{Bool.cases_lt, Int.{ints, to_z-of_z}}}
 use Rattle.lay_springs.proofs.guesses.too_long.Goals as goal
 
 pub returns-clause-never : goal.returns-clause-never
-returns-clause-never g c = λ gaps placed f from within stood.
-    let near = c.stretched-end.ensures.near gaps placed f (c.args.placed.force - f) stood.y (omega arith) stood.apart in
+returns-clause-never g c = λ gaps x is placed f from within stood.
+    let near = c.stretched-end.ensures.near gaps x
+    (is ∙ sym (to_z-of_z w64 c.args.from (record { sfits = c.ranges.from.sfits }))) placed f (c.args.placed.force - f)
+    stood.y (omega arith) stood.apart in
     let small = c.stretched-end.ensures.small in
     let begins = small.0 in
     let high = small.1 in

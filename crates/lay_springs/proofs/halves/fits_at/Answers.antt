@@ -1,4 +1,4 @@
 use Rattle.lay_springs.proofs.halves.fits_at.Goals as goal
 
-pub end_at-requires-clause-placed : goal.end_at-requires-clause-placed
-end_at-requires-clause-placed g c = c.none.ensures _ _ _ _ _ _
+pub end_at-requires : goal.end_at-requires
+end_at-requires g c = record { placed = c.none-placing.ensures _ _ _ _ _ _ }

@@ -5,7 +5,7 @@ use Rattle.std.proofs.lemmas.List.{get_or-replicate}
 use Rattle.std.proofs.lemmas.Option.{slice_get_read}
 use Rattle.std.specs.Prelude.{FitsSigned}
 use Rattle.lay_springs.specs.Place.{reach_at}
-use Rattle.lay_springs.proofs.Placing.{placed_first, near_at, reach_is}
+use Rattle.lay_springs.proofs.Extending.{placed_first, near_at, reach_is}
 use Rattle.lay_springs.proofs.Clear.{inside_bound}
 use Rattle.lay_springs.proofs.Fronts.{front_more, front_start}
 use Rattle.lay_springs.proofs.least.begun.Goals.{After-first_at-first}

@@ -1,7 +1,7 @@
 use Rattle.std.proofs.Common.{◌≡◌, length, Some, slice_get, subst, sym, refl, w64}
 use Rattle.std.proofs.lemmas.Int.{to_z-of_z}
 use Rattle.std.proofs.lemmas.Option.{slice_get_read}
-use Rattle.lay_springs.{specs.Place.IsFirst, proofs.Placing.reach_is}
+use Rattle.lay_springs.{specs.Place.IsFirst, proofs.Extending.reach_is}
 use Rattle.lay_springs.proofs.least.first_at.Goals as goal
 
 pub returns : goal.returns

@@ -4,7 +4,7 @@ use Rattle.std.proofs.lemmas.Int.{ints}
 use Rattle.std.proofs.lemmas.Option.{slice_get_read}
 use Rattle.lay_springs.specs.Place.{reach_at}
 use Rattle.lay_springs.specs.Fit.{IsEndOf}
-use Rattle.lay_springs.proofs.Placing.{reach_is}
+use Rattle.lay_springs.proofs.Extending.{reach_is}
 use Rattle.lay_springs.proofs.margin.rest_of.Goals.{After-end_of}
 use Rattle.lay_springs.proofs.margin.rest_of.Goals as goal
 

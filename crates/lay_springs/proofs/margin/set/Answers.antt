@@ -4,21 +4,21 @@ use Rattle.std.proofs.lemmas.List.{take_all}
 use Rattle.lay_springs.specs.Place.{reach_at, length_at, IsPlace}
 use Rattle.lay_springs.proofs.Ends.{end_down}
 use Rattle.lay_springs.proofs.Moved.{set_apart}
-use Rattle.lay_springs.proofs.margin.set.Goals.{After-place_all}
+use Rattle.lay_springs.proofs.margin.set.Goals.{After-place_new}
 use Rattle.lay_springs.proofs.margin.set.Goals as goal
 
-place : (g : _) (c : After-place_all g)
+place : (g : _) (c : After-place_new g)
     → IsPlace (length c.args.columns.cols.now) (reach_at g.C.Spaced.reach_of c.args.columns.cols.now)
     c.args.columns.gaps.list.now
-    (length_at g.C.Spring.length_of c.args.columns.cols.now c.args.force) c.place_all.new.at
+    (length_at g.C.Spring.length_of c.args.columns.cols.now c.args.force) c.place_new.new.at
 place g c =
     subst (λ at.
     IsPlace (length c.args.columns.cols.now) (reach_at g.C.Spaced.reach_of c.args.columns.cols.now)
     c.args.columns.gaps.list.now
     (length_at g.C.Spring.length_of c.args.columns.cols.now c.args.force) at)
-    (take_all (length c.args.columns.cols.now) c.place_all.new.at
-    (let same = c.place_all.auto.at in let room = c.requires.room in omega arith))
-    c.place_all.ensures.place
+    (take_all (length c.args.columns.cols.now) c.place_new.new.at
+    (let same = c.place_new.auto.at in let room = c.requires.room in omega arith))
+    c.place_new.ensures.place
 
 pub rest_of-rest-requires-clause-fits : goal.rest_of-rest-requires-clause-fits
 rest_of-rest-requires-clause-fits g c = λ e end.
@@ -28,26 +28,26 @@ rest_of-rest-requires-clause-fits g c = λ e end.
     (length_at g.C.Spring.length_of c.args.columns.cols.now) c.args.force c.args.force e f.0 c.args.columns.some
     (λ i. omega arith)
     (record {
-      x = c.place_all.new.at;
-      place = place g (goal.at.rest_of-rest-requires-clause-fits g c).After-place_all;
+      x = c.place_new.new.at;
+      place = place g (goal.at.rest_of-rest-requires-clause-fits g c).After-place_new;
       end = end;
     }) f.1 in
     let w = f.2 in omega (arith, ints)
 
 pub returns-then-cols-eq1-clause-set : goal.returns-then-cols-eq1-clause-set
 returns-then-cols-eq1-clause-set g c = record {
-  x = c.place_all.new.at;
-  place = place g (goal.at.returns-then-cols-eq1-clause-set g c).After-place_all;
-  count = (place g (goal.at.returns-then-cols-eq1-clause-set g c).After-place_all).count;
+  x = c.place_new.new.at;
+  place = place g (goal.at.returns-then-cols-eq1-clause-set g c).After-place_new;
+  count = (place g (goal.at.returns-then-cols-eq1-clause-set g c).After-place_new).count;
   alone = λ _. refl;
   moved = λ l. absurd (omega arith);
 }
 
 pub returns-clause-set : goal.returns-clause-set
 returns-clause-set g c =
-    let r = c.rest_of-rest.ensures in let placed = place g (goal.at.returns-clause-set g c).After-place_all in
+    let r = c.rest_of-rest.ensures in let placed = place g (goal.at.returns-clause-set g c).After-place_new in
     record {
-      x = c.place_all.new.at;
+      x = c.place_new.new.at;
       place = placed;
       count = let count = placed.count in omega arith;
       alone = λ l. absurd (omega arith);
@@ -70,7 +70,4 @@ returns-clause-apart g c =
 
 pub spread-requires-clause-small : goal.spread-requires-clause-small
 spread-requires-clause-small g c =
-    λ k l. c.place_all.ensures.small k (let same = c.place_all.auto.at in let room = c.requires.room in omega arith)
-
-pub place_all-requires-clause-placed : goal.place_all-requires-clause-placed
-place_all-requires-clause-placed g c = c.none.ensures _ _ _ _ _ _
+    λ k l. c.place_new.ensures.small k (let same = c.place_new.auto.at in let room = c.requires.room in omega arith)

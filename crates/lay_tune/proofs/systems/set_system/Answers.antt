@@ -31,8 +31,9 @@ press-requires c =
 
 pub tilt_of-requires-clause-keys : goal.tilt_of-requires-clause-keys
 tilt_of-requires-clause-keys c =
-    let s = c.args.measured.now.score.now in
-    subst (λ t. AreKeys c.in_ok-keys.keys (called_keys s t.lengths c.args.a c.args.b)) (sym c.requires.measured.times)
+    let s = c.args.measured.now.drawn.score.now in
+    subst (λ t. AreKeys c.in_ok-keys.keys (called_keys s t.lengths c.args.a c.args.b))
+    (sym c.args.measured.now.drawn.timed)
     (subst (λ keys. AreKeys keys (called_keys s (timeline_of s).lengths c.args.a c.args.b)) (sym c.in_ok-keys.ensures)
     (span_set c.args.measured.now.measures.now.starts.now c.args.measured.now.measures.now.others.now
     (map (λ s. s.column.now) c.as_slice-columns.result.now) c.requires.fits c.requires.measured.columns
@@ -41,15 +42,15 @@ tilt_of-requires-clause-keys c =
 
 pub tilt_of-requires-clause-places : goal.tilt_of-requires-clause-places
 tilt_of-requires-clause-places c =
-    let s = c.args.measured.now.score.now in
+    let s = c.args.measured.now.drawn.score.now in
     let placed = (span_set c.args.measured.now.measures.now.starts.now c.args.measured.now.measures.now.others.now
     (map (λ s. s.column.now) c.as_slice-columns.result.now) c.requires.fits c.requires.measured.columns
     c.requires.measured.gaps
     (ap (map (λ s. s.column.now)) c.as_slice-columns.ensures ∙ c.in_ok-seen.ensures)).1 c.in_ok-placed.placed
     c.in_ok-placed.ensures in
     let narrow = c.requires.measured.wide in let flat = has_system s c.args.a c.args.b in
-    subst (λ at. AreAbscissas s c.args.measured.now.times.now c.args.a c.args.b at) (sym c.as_slice-at.ensures)
-    (subst (λ t. AreAbscissas s t c.args.a c.args.b c.in_ok-placed.placed.at) (sym c.requires.measured.times)
+    subst (λ at. AreAbscissas s c.args.measured.now.drawn.times.now c.args.a c.args.b at) (sym c.as_slice-at.ensures)
+    (subst (λ t. AreAbscissas s t c.args.a c.args.b c.in_ok-placed.placed.at) (sym c.args.measured.now.drawn.timed)
     (abscissas_of s c.args.measured.now.width c.args.a c.args.b flat.0 c.in_ok-placed.placed (omega arith) flat.1
     placed))
 
@@ -59,24 +60,24 @@ stack-requires-clause-good c = good_staves c.in_ok-marks.marks.staves c.in_ok-ma
 pub stack-requires-clause-few : goal.stack-requires-clause-few
 stack-requires-clause-few c =
     let count = ap (λ these. length these) c.in_ok-marks.ensures.tilted.staves
-    ∙ length-map (drawn_staves c.args.measured.now.score.now)
-    (tilted_staff c.in_ok-marks.marks.keys c.args.measured.now.times.now.lengths c.as_slice-at.result.now c.args.a
+    ∙ length-map (drawn_staves c.args.measured.now.drawn.score.now)
+    (tilted_staff c.in_ok-marks.marks.keys c.args.measured.now.drawn.times.now.lengths c.as_slice-at.result.now c.args.a
     c.args.b) in
-    let staves = staves_count c.args.measured.now.score.now in
-    let voices = c.requires.measured.good.few_voices in
+    let staves = staves_count c.args.measured.now.drawn.score.now in
+    let voices = c.args.measured.now.drawn.good.few_voices in
     omega (arith, count, staves, voices)
 
 pub stack-requires-clause-gaps : goal.stack-requires-clause-gaps
 stack-requires-clause-gaps c =
-    gaps_count c.args.measured.now.score.now c.in_ok-marks.marks c.as_slice-2.result.now
-    (tilted_staff c.in_ok-marks.marks.keys c.args.measured.now.times.now.lengths c.as_slice-at.result.now c.args.a
+    gaps_count c.args.measured.now.drawn.score.now c.in_ok-marks.marks c.as_slice-2.result.now
+    (tilted_staff c.in_ok-marks.marks.keys c.args.measured.now.drawn.times.now.lengths c.as_slice-at.result.now c.args.a
     c.args.b)
     (c.as_slice-2.ensures ∙ c.in_ok-between.ensures ∙ ap gaps_between c.as_slice.ensures)
     c.in_ok-marks.ensures.tilted.staves
 
 pub returns-clause-system : goal.returns-clause-system
 returns-clause-system c =
-    let s = c.args.measured.now.score.now in let flat = has_system s c.args.a c.args.b in
+    let s = c.args.measured.now.drawn.score.now in let flat = has_system s c.args.a c.args.b in
     let tilted = c.in_ok-marks in
     let placed : IsPlaced s c.args.measured.now.width flat.0 c.in_ok-placed.placed =
     (span_set c.args.measured.now.measures.now.starts.now c.args.measured.now.measures.now.others.now
@@ -89,12 +90,14 @@ returns-clause-system c =
       called = flat.1;
       placed = placed;
       ends = placed_ends s c.args.measured.now.width c.args.a c.args.b flat.0 c.in_ok-placed.placed
-          c.requires.measured.good c.requires.measured.heard c.requires.fits.rises c.requires.fits.within flat.1 placed;
+          c.args.measured.now.drawn.good c.requires.measured.heard c.requires.fits.rises c.requires.fits.within flat.1
+          placed;
       tilted =
-          subst (λ t. IsTilted s t c.args.a c.args.b c.in_ok-placed.placed.at tilted.marks) c.requires.measured.times
-          (subst (λ at. IsTilted s c.args.measured.now.times.now c.args.a c.args.b at tilted.marks)
+          subst (λ t. IsTilted s t c.args.a c.args.b c.in_ok-placed.placed.at tilted.marks)
+          c.args.measured.now.drawn.timed
+          (subst (λ at. IsTilted s c.args.measured.now.drawn.times.now c.args.a c.args.b at tilted.marks)
           c.as_slice-at.ensures tilted.ensures.tilted);
       alike =
           tilted.ensures.alike flat.0
-          (subst (λ t. IsCall s t c.args.a c.args.b flat.0) (sym c.requires.measured.times) flat.1);
+          (subst (λ t. IsCall s t c.args.a c.args.b flat.0) (sym c.args.measured.now.drawn.timed) flat.1);
     }

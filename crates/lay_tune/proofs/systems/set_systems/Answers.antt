@@ -16,9 +16,9 @@ Good m = All (λ staff. AreGoodMarks staff.marks) m.staves
 
 pub loop-b-preserved : goal.loop-b-preserved
 loop-b-preserved c =
-    let s = c.args.measured.now.score.now in
+    let s = c.args.measured.now.drawn.score.now in
     let Is : ℕ → ℕ → SystemMarks → Placed → Type 0 =
-    IsSetSystem c.args.measured.now.score.now c.args.measured.now.width in
+    IsSetSystem c.args.measured.now.drawn.score.now c.args.measured.now.width in
     let breaks = c.args.breaks.now in
     let i = c.loop-b.b-index in
     let b = slice_index_or c.args.breaks.now c.loop-b.b-index 0 in
@@ -58,13 +58,14 @@ returns-clause-systems c =
     let past : length c.args.breaks.now ≤ c.loop-b.b-index = grind (arith, c.loop-b-test.false) in
     let none = drop_all c.loop-b.b-index c.args.breaks.now past in
     subst (λ marks.
-    EachSpan (IsSetSystem c.args.measured.now.score.now c.args.measured.now.width) 0 c.args.breaks.now marks
+    EachSpan (IsSetSystem c.args.measured.now.drawn.score.now c.args.measured.now.width) 0 c.args.breaks.now marks
     c.loop-b.placed)
     (append-nil c.loop-b.marks)
     (subst (λ placed.
-    EachSpan (IsSetSystem c.args.measured.now.score.now c.args.measured.now.width) 0 c.args.breaks.now
+    EachSpan (IsSetSystem c.args.measured.now.drawn.score.now c.args.measured.now.width) 0 c.args.breaks.now
     (c.loop-b.marks ++ []) placed)
     (append-nil c.loop-b.placed)
     (c.loop-b.invariant.systems [] []
-    (subst (λ bs. EachSpan (IsSetSystem c.args.measured.now.score.now c.args.measured.now.width) c.loop-b.a bs [] [])
+    (subst (λ bs.
+    EachSpan (IsSetSystem c.args.measured.now.drawn.score.now c.args.measured.now.width) c.loop-b.a bs [] [])
     (sym none) tt)))

@@ -1,4 +1,4 @@
 use Rattle.layout_tests.proofs.plain.put_within.Goals as goal
 
-pub fit_within-force-requires-clause-placed : goal.fit_within-force-requires-clause-placed
-fit_within-force-requires-clause-placed c = c.none-placed.ensures _ _ _ _ _ _
+pub search_within-found-requires-clause-placed : goal.search_within-found-requires-clause-placed
+search_within-found-requires-clause-placed c = c.none.ensures _ _ _ _ _ _

@@ -4,5 +4,5 @@ use Rattle.mus_drawn.proofs.sounds.put_measures.Given as goal
 
 abbrev pub invariant-loop-m : goal.invariant-loop-m
 invariant-loop-m l =
-    l.out ++ measures_sounds l.voice l.spread l.now l.before (drop l.m-index l.measures)
+    l.out ++ measures_sounds l.voice l.spread l.state.now l.state.before (drop l.m-index l.measures)
     ≡ l.fn.out ++ measures_sounds l.voice l.spread l.fn.now [] l.measures

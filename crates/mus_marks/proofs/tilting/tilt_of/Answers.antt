@@ -17,44 +17,51 @@ use Rattle.mus_marks.proofs.tilting.tilt_of.Goals as goal
 
 pub invariant_of-frame : goal.invariant_of-frame
 invariant_of-frame c =
-    let count = lengths_count c.args.s.now c.args.t.now c.as_slice-2.result.now c.as_slice-2.ensures c.requires.times in
+    let count = lengths_count c.args.drawn.now.score.now c.args.drawn.now.times.now c.as_slice-2.result.now
+    c.as_slice-2.ensures c.args.drawn.now.timed in
     record {
       ranked =
           subst AreRanked (sym c.as_slice.ensures)
           (record {
             rise = c.requires.keys.rise;
-            few = few_keys c.args.s.now c.args.t.now.lengths c.args.a c.args.b c.args.keys c.requires.good
+            few =
+                few_keys c.args.drawn.now.score.now c.args.drawn.now.times.now.lengths c.args.a c.args.b c.args.keys
+                c.args.drawn.now.good
                 c.requires.within c.requires.keys;
           });
       order = c.requires.order;
       within = omega (arith, count, c.requires.within);
-      few = omega (arith, count, c.requires.good.few_measures);
+      few = omega (arith, count, c.args.drawn.now.good.few_measures);
     }
 
 pub tilted_staves-requires-clause-each : goal.tilted_staves-requires-clause-each
 tilted_staves-requires-clause-each c =
-    voices_count c.args.s.now c.args.t.now c.as_slice-2.result.now c.as_slice-2.ensures c.requires.times
-    c.args.voices.now c.requires.good c.requires.voices
+    voices_count c.args.drawn.now.score.now c.args.drawn.now.times.now c.as_slice-2.result.now c.as_slice-2.ensures
+    c.args.drawn.now.timed
+    c.args.drawn.now.voices.now c.args.drawn.now.good c.args.drawn.now.drawn
 
 pub tilted_staves-requires-clause-slopes : goal.tilted_staves-requires-clause-slopes
 tilted_staves-requires-clause-slopes c =
     subst (λ ks.
-    All (λ v. AllCanTilt ks c.args.at.now c.args.a (slice_range v.measures c.args.a c.args.b)) c.args.voices.now)
+    All (λ v. AllCanTilt ks c.args.at.now c.args.a (slice_range v.measures c.args.a c.args.b))
+    c.args.drawn.now.voices.now)
     (sym c.as_slice.ensures)
     (subst (All (λ v. AllCanTilt c.args.keys c.args.at.now c.args.a (slice_range v.measures c.args.a c.args.b)))
-    (sym c.requires.voices)
-    (voices_can c.args.s.now c.args.t.now c.args.a c.args.b c.args.keys c.args.at.now c.requires.places c.requires.keys
-    c.requires.good c.requires.within
-    (subst (All (λ v. AreGoodMeasures v.measures)) c.requires.voices c.requires.drawn)))
+    (sym c.args.drawn.now.drawn)
+    (voices_can c.args.drawn.now.score.now c.args.drawn.now.times.now c.args.a c.args.b c.args.keys c.args.at.now
+    c.requires.places c.requires.keys
+    c.args.drawn.now.good c.requires.within
+    (subst (All (λ v. AreGoodMeasures v.measures)) c.args.drawn.now.drawn c.args.drawn.now.measured)))
 
 pub tilted_staves-requires-clause-verses : goal.tilted_staves-requires-clause-verses
 tilted_staves-requires-clause-verses c =
-    subst (λ vs. verses_on vs ≤ 128) (sym c.requires.voices) (few_verses c.args.s.now c.requires.good)
+    subst (λ vs. verses_on vs ≤ 128) (sym c.args.drawn.now.drawn)
+    (few_verses c.args.drawn.now.score.now c.args.drawn.now.good)
 
 pub returns-clause-tilted : goal.returns-clause-tilted
 returns-clause-tilted c =
     let keys = c.args.keys in
-    let lengths = c.args.t.now.lengths in
+    let lengths = c.args.drawn.now.times.now.lengths in
     let at = c.args.at.now in
     let a = c.args.a in
     let b = c.args.b in
@@ -64,36 +71,44 @@ returns-clause-tilted c =
       keys = c.requires.keys;
       staves =
           c.in_ok-staves.ensures.staves
-          ∙ ap (λ ks. map (tilted_staff ks c.as_slice-2.result.now at a b) (grouped is_drawn_lower c.args.voices.now))
+          ∙ ap (λ ks.
+          map (tilted_staff ks c.as_slice-2.result.now at a b) (grouped is_drawn_lower c.args.drawn.now.voices.now))
           c.as_slice.ensures
-          ∙ ap (λ ls. map (tilted_staff keys ls at a b) (grouped is_drawn_lower c.args.voices.now)) c.as_slice-2.ensures
-          ∙ ap (λ vs. map (tilted_staff keys lengths at a b) (grouped is_drawn_lower vs)) c.requires.voices;
+          ∙ ap (λ ls. map (tilted_staff keys ls at a b) (grouped is_drawn_lower c.args.drawn.now.voices.now))
+          c.as_slice-2.ensures
+          ∙ ap (λ vs. map (tilted_staff keys lengths at a b) (grouped is_drawn_lower vs)) c.args.drawn.now.drawn;
     }
 
 pub returns-clause-alike : goal.returns-clause-alike
 returns-clause-alike c =
     λ flat call.
-    tilted_alike c.args.s.now c.args.t.now c.args.a c.args.b c.args.at.now _ (returns-clause-tilted c) flat call
+    tilted_alike c.args.drawn.now.score.now c.args.drawn.now.times.now c.args.a c.args.b c.args.at.now _
+    (returns-clause-tilted c) flat call
 
 pub returns-clause-places : goal.returns-clause-places
 returns-clause-places c =
-    keys_placed c.args.s.now c.args.t.now c.args.a c.args.b c.args.keys c.requires.times c.requires.good
+    keys_placed c.args.drawn.now.score.now c.args.drawn.now.times.now c.args.a c.args.b c.args.keys
+    c.args.drawn.now.timed c.args.drawn.now.good
     c.requires.order c.requires.within c.requires.keys
 
 pub returns-clause-good : goal.returns-clause-good
 returns-clause-good c =
-    tilted_good c.args.s.now c.args.t.now c.args.a c.args.b c.args.at.now _ (returns-clause-tilted c) c.requires.good
+    tilted_good c.args.drawn.now.score.now c.args.drawn.now.times.now c.args.a c.args.b c.args.at.now _
+    (returns-clause-tilted c) c.args.drawn.now.good
 
 pub tilted_staves-requires-clause-ordered : goal.tilted_staves-requires-clause-ordered
 tilted_staves-requires-clause-ordered c =
     let at = c.args.at.now in
     let a = c.args.a in
     let b = c.args.b in
-    subst (λ ks. All (λ v. IsOrdered ks c.as_slice-2.result.now a b (voice_tilted ks at a b v)) c.args.voices.now)
+    subst (λ ks.
+    All (λ v. IsOrdered ks c.as_slice-2.result.now a b (voice_tilted ks at a b v)) c.args.drawn.now.voices.now)
     (sym c.as_slice.ensures)
-    (subst (λ ls. All (λ v. IsOrdered c.args.keys ls a b (voice_tilted c.args.keys at a b v)) c.args.voices.now)
+    (subst (λ ls.
+    All (λ v. IsOrdered c.args.keys ls a b (voice_tilted c.args.keys at a b v)) c.args.drawn.now.voices.now)
     (sym c.as_slice-2.ensures)
-    (subst (All (λ v. IsOrdered c.args.keys c.args.t.now.lengths a b (voice_tilted c.args.keys at a b v)))
-    (sym c.requires.voices)
-    (tilted_ordered c.args.s.now c.args.t.now a b c.args.keys c.requires.times c.requires.good c.requires.order
+    (subst (All (λ v. IsOrdered c.args.keys c.args.drawn.now.times.now.lengths a b (voice_tilted c.args.keys at a b v)))
+    (sym c.args.drawn.now.drawn)
+    (tilted_ordered c.args.drawn.now.score.now c.args.drawn.now.times.now a b c.args.keys c.args.drawn.now.timed
+    c.args.drawn.now.good c.requires.order
     c.requires.within c.requires.keys at)))

@@ -1,7 +1,8 @@
-use Rattle.std.proofs.Common.{◌≡◌, ◌*ℤ◌, ◌≤ℤ◌, pos, negsuc, refl, ◌∙◌, to_z, of_z, w32, w64, arith, ◌≤◌, ◌^◌}
+use Rattle.std.proofs.Common.{◌≡◌, ◌*ℤ◌, ◌≤ℤ◌, refl, ◌∙◌, to_z, of_z, w32, w64, arith, ◌≤◌, ◌^◌}
 use Rattle.std.proofs.lemmas.Int.{ints, fits_signed_mul, to_z-of_z}
 use Rattle.std.specs.Int.{int_div_euclid}
 use Rattle.std.specs.Int.RustNames.{unsigned_abs}
+use Rattle.mus_stems.specs.Distances.{steepest_climb, steepest, steepest_down}
 use Rattle.mus_stems.proofs.SlopeLaws.{rise_near}
 use Rattle.mus_stems.proofs.slopes.risen.Goals as goal
 
@@ -14,17 +15,17 @@ quotient_is c =
     let begun = c.requires.begun in
     let within = c.requires.within in
     let near = c.requires.near in
-    let climb : unsigned_abs c.args.climb ≤ 500 = omega (arith, ints, low, high) in
+    let climb : unsigned_abs c.args.climb ≤ steepest_climb = omega (arith, ints, low, high) in
     let along : unsigned_abs c.args.along ≤ 2 ^ 40 = omega (arith, ints, begun, within, near) in
     let climb_is : to_z w64 (of_z w64 c.args.climb) ≡ c.args.climb = omega (arith, ints, low, high) in
     let along_is : to_z w64 (of_z w64 c.args.along) ≡ c.args.along = omega (arith, ints, begun, within, near) in
     let length_is : to_z w64 (of_z w64 c.args.length) ≡ c.args.length = omega (arith, ints, begun, within, near) in
     let product_is : to_z w64 (of_z w64 (c.args.climb *ℤ c.args.along)) ≡ c.args.climb *ℤ c.args.along
     = to_z-of_z w64 (c.args.climb *ℤ c.args.along)
-    (fits_signed_mul w64 c.args.climb c.args.along 500 (2 ^ 40) climb along (omega arith)) in
+    (fits_signed_mul w64 c.args.climb c.args.along steepest_climb (2 ^ 40) climb along (omega arith)) in
     c.div_euclid.ensures ∙ rw (climb_is, along_is, length_is, product_is) refl
 
-near : (c : goal.After-div_euclid) → (negsuc 499 ≤ℤ c.div_euclid.result) × (c.div_euclid.result ≤ℤ pos 500)
+near : (c : goal.After-div_euclid) → (steepest_down ≤ℤ c.div_euclid.result) × (c.div_euclid.result ≤ℤ steepest)
 near c =
     let q = quotient_is c in
     let r = rise_near c.args.climb c.args.along c.args.length c.requires.low c.requires.high c.requires.begun

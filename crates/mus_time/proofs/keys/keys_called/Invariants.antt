@@ -4,5 +4,6 @@ use Rattle.mus_time.proofs.keys.keys_called.Given as goal
 
 abbrev pub invariant-loop-v : goal.invariant-loop-v
 invariant-loop-v l =
-    l.keys ++ flat_map (staff_columns l.begins l.lengths l.a l.b) (drop l.v-index l.voices)
-    ≡ flat_map (staff_columns l.begins l.lengths l.a l.b) l.voices
+    let r = l.range in
+    l.keys ++ flat_map (staff_columns r.begins r.lengths.now r.a r.b) (drop l.v-index l.voices)
+    ≡ flat_map (staff_columns r.begins r.lengths.now r.a r.b) l.voices

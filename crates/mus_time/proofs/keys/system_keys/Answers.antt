@@ -6,45 +6,43 @@ use Rattle.mus_time.proofs.Counts.{lengths_count, voices_count}
 use Rattle.mus_time.proofs.Few.{few_keys}
 use Rattle.mus_time.proofs.keys.system_keys.Goals as goal
 
-pub keys_called-requires-clause-within : goal.keys_called-requires-clause-within
-keys_called-requires-clause-within c =
-    omega (
-      arith,
-      lengths_count c.args.s.now c.args.t.now c.as_slice.result.now c.as_slice.ensures c.requires.times,
-      c.requires.within,
-    )
-
-pub keys_called-requires-clause-few : goal.keys_called-requires-clause-few
-keys_called-requires-clause-few c =
-    omega (
-      arith,
-      lengths_count c.args.s.now c.args.t.now c.as_slice.result.now c.as_slice.ensures c.requires.times,
-      c.requires.good.few_measures,
-    )
+pub invariant_of-range : goal.invariant_of-range
+invariant_of-range c =
+    let drawn = c.args.drawn.now in
+    let count = lengths_count drawn.score.now drawn.times.now c.as_slice.result.now c.as_slice.ensures drawn.timed in
+    record {
+      order = c.requires.order;
+      within = omega (arith, count, c.requires.within);
+      few = omega (arith, count, drawn.good.few_measures);
+    }
 
 pub keys_called-requires-clause-each : goal.keys_called-requires-clause-each
 keys_called-requires-clause-each c =
-    voices_count c.args.s.now c.args.t.now c.as_slice.result.now c.as_slice.ensures c.requires.times c.args.voices.now
-    c.requires.good c.requires.voices
+    voices_count c.args.drawn.now.score.now c.args.drawn.now.times.now c.as_slice.result.now c.as_slice.ensures
+    c.args.drawn.now.timed c.args.drawn.now.voices.now
+    c.args.drawn.now.good c.args.drawn.now.drawn
 
 pub returns-clause-keys : goal.returns-clause-keys
 returns-clause-keys c =
-    let lengths = c.args.t.now.lengths in
+    let lengths = c.args.drawn.now.times.now.lengths in
     subst (AreKeys c.rising_keys.result)
     (c.in_ok-called.ensures
-    ∙ ap (λ ls. flat_map (staff_columns true ls c.args.a c.args.b) c.args.voices.now) c.as_slice.ensures
-    ∙ ap (flat_map (staff_columns true lengths c.args.a c.args.b)) c.requires.voices
-    ∙ sym (voices_same lengths c.args.a c.args.b c.args.s.now.voices))
+    ∙ ap (λ ls. flat_map (staff_columns true ls c.args.a c.args.b) c.args.drawn.now.voices.now) c.as_slice.ensures
+    ∙ ap (flat_map (staff_columns true lengths c.args.a c.args.b)) c.args.drawn.now.drawn
+    ∙ sym (voices_same lengths c.args.a c.args.b c.args.drawn.now.score.now.voices))
     c.rising_keys.ensures
 
 pub returns-clause-places : goal.returns-clause-places
 returns-clause-places c =
-    keys_placed c.args.s.now c.args.t.now c.args.a c.args.b c.rising_keys.result c.requires.times c.requires.good
+    keys_placed c.args.drawn.now.score.now c.args.drawn.now.times.now c.args.a c.args.b c.rising_keys.result
+    c.args.drawn.now.timed c.args.drawn.now.good
     c.requires.order c.requires.within (returns-clause-keys c)
 
 pub returns-clause-ranked : goal.returns-clause-ranked
 returns-clause-ranked c = record {
   rise = c.rising_keys.ensures.rise;
-  few = few_keys c.args.s.now c.args.t.now.lengths c.args.a c.args.b c.rising_keys.result c.requires.good
+  few =
+      few_keys c.args.drawn.now.score.now c.args.drawn.now.times.now.lengths c.args.a c.args.b c.rising_keys.result
+      c.args.drawn.now.good
       c.requires.within (returns-clause-keys c);
 }
