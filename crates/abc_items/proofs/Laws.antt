@@ -3,7 +3,6 @@ use Rattle.std.proofs.Common.{◌≡◌, ℕ, suc, ◌+◌, ◌<◌, ◌≤◌, 
 use Rattle.std.proofs.Common.{refl, sym, ap, ◌∙◌, subst, arith, append_assoc, append-nil, drop-cons, Option, Some, None}
 use Rattle.std.proofs.Common.{Bool, true, false, ◌&&◌, All, flat_map}
 use Rattle.std.proofs.Math.Seq.{take-suc}
-use Rattle.std.proofs.Math.ListN.{drop_of_length-le}
 use Rattle.std.proofs.lemmas.List.Sums.{sum_by-cons}
 use Rattle.std.proofs.lemmas.List.Elements.{All-nil, All-push, All-append, All-head, All-tail}
 use Rattle.std.specs.Str.{bytes_eq}
@@ -223,8 +222,3 @@ steps_good id own (i ∷ items) good =
     All-append IsGoodPlacedStep (steps_in id own i) (steps_from id (own_next id own i) items)
     (item_steps_good id own i (All-head IsGoodItem i items good))
     (steps_good id (own_next id own i) items (All-tail IsGoodItem i items good))
-
-pub steps_whole : (id : List ℕ) (own : Bool) (items : List BodyItem) (i : ℕ) (steps all : List PlacedStep)
-    → length items ≤ i → steps ++ steps_from id own (drop i items) ≡ all → steps ≡ all
-steps_whole id own items i steps all past so_far =
-    sym (append-nil steps) ∙ ap (λ is. steps ++ steps_from id own is) (sym (drop_of_length-le items past)) ∙ so_far

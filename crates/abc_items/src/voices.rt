@@ -1,21 +1,17 @@
-ghost use Rattle.std.specs.Prelude.{◌≡◌, ◌++◌, ◌∷◌, ◌&&◌, ◌||◌, not, ◌==◌, [], IfOk, OnOk, map, find, fold, length};
-ghost use Rattle.std.specs.Prelude.{unwrap_or, true, false, All};
+ghost use Rattle.std.specs.Prelude.{◌≡◌, ◌&&◌, ◌||◌, not, ◌==◌, IfOk, OnOk, map, find, fold, length};
+ghost use Rattle.std.specs.Prelude.{unwrap_or, true, false};
 ghost use Rattle.std.specs.List.{list_any};
 ghost use Rattle.std.specs.Option.{option_copied};
 ghost use Rattle.std.specs.Str.{bytes_eq};
-ghost use Rattle.abc_steps.specs.Good.{IsGoodPlacedStep};
-ghost use Rattle.abc_items.specs.Good.{IsGoodItem};
 ghost use Rattle.abc_items.specs.Voices.{claims, voice_one, ids_by_step, ids_after_item, declared_ids, voice_ids};
 ghost use Rattle.abc_items.specs.Voices.{unnamed_of, declared, decides, clef_of_item, still_alone, first_clef};
 ghost use Rattle.abc_items.specs.Voices.{clef_first, start_clef, wish_of_item, wish_if, declared_wish, start_stem};
-ghost use Rattle.abc_items.specs.Voices.{start_of, starts_of, stood, break_if, clef_step, one_if, named_step, steps_in};
-ghost use Rattle.abc_items.specs.Voices.{own_next, steps_of};
+ghost use Rattle.abc_items.specs.Voices.{start_of, starts_of};
 ghost use Rattle.{abc_field.specs.Last.{last_of}, abc_fields.specs.Voicing.{with_id}};
 
-use crate::copies::copy_stood;
 use abc_field::VoiceDef;
 use abc_fields::Header;
-use abc_steps::{BodyItem, PlacedStep, Step};
+use abc_steps::{BodyItem, Step};
 use mus_units::bytes::is_same;
 use mus_units::{Clef, Memory, Row, Text, Wish};
 use std::alloc::Global;
@@ -261,114 +257,4 @@ fn starts_in(
         starts.push(start_of(alloc, header, items, id)?)?;
     }
     Ok(starts)
-}
-
-/// Returns the steps of a voice. `unnamed` is the voice of the music before any voice field. The end of a line is a
-/// step of every voice.
-pub fn steps_of(
-    alloc: Global,
-    id: &[u8],
-    unnamed: &[u8],
-    items: &[BodyItem],
-) -> Result<Row<PlacedStep>, Memory>
-    ensures value { IfOk result (λ steps. steps ≡ steps_of id.now unnamed.now items.now) }
-    ensures good { All IsGoodItem items.now → IfOk result (λ steps. All IsGoodPlacedStep steps) }
-{
-    let room = items.len().saturating_add(items.len() / 16);
-    let mut steps = Row::with_room(alloc, room.min(1024))?;
-    let mut own = is_same(id, unnamed);
-    for item in items {
-        put_steps(alloc, &mut steps, id, own, item)?;
-        own = own_next(id, own, item);
-    }
-    Ok(steps)
-}
-
-/// Returns whether what follows an item belongs to the voice.
-fn own_next(id: &[u8], own: bool, item: &BodyItem) -> bool
-    ensures { result ≡ own_next id.now own item.now }
-{
-    match item {
-        BodyItem::Voice { def, .. } => is_same(id, def.id.as_slice()),
-        _ => own,
-    }
-}
-
-fn put_steps(
-    alloc: Global,
-    steps: &mut Row<PlacedStep>,
-    id: &[u8],
-    own: bool,
-    item: &BodyItem,
-) -> Result<(), Memory>
-    ensures { OnOk result (steps.new ≡ steps.old ++ steps_in id.now own item.now) }
-{
-    match item {
-        BodyItem::Step(stood) => put_own(alloc, steps, own, stood),
-        BodyItem::LineEnd {
-            breaks,
-            line,
-            column,
-            ..
-        } => put_end(steps, *breaks && own, *line, *column),
-        BodyItem::Voice { def, line, column } => put_named(
-            steps,
-            is_same(id, def.id.as_slice()),
-            def.clef,
-            *line,
-            *column,
-        ),
-        BodyItem::Words { text: _, line: _ } => Ok(()),
-    }
-}
-
-fn put_own(
-    alloc: Global,
-    steps: &mut Row<PlacedStep>,
-    own: bool,
-    stood: &PlacedStep,
-) -> Result<(), Memory>
-    ensures { OnOk result (steps.new ≡ steps.old ++ one_if own stood.now) }
-{
-    if own {
-        return steps.push(copy_stood(alloc, stood)?);
-    }
-    Ok(())
-}
-
-fn put_end(steps: &mut Row<PlacedStep>, breaks: bool, line: u32, column: u32) -> Result<(), Memory>
-    ensures { OnOk result (steps.new ≡ steps.old ++ stood Step.LineEnd line column ∷ break_if breaks line column) }
-{
-    steps.push(PlacedStep {
-        step: Step::LineEnd,
-        line,
-        column,
-    })?;
-    if breaks {
-        return steps.push(PlacedStep {
-            step: Step::Break,
-            line,
-            column,
-        });
-    }
-    Ok(())
-}
-
-fn put_named(
-    steps: &mut Row<PlacedStep>,
-    named: bool,
-    clef: Option<Clef>,
-    line: u32,
-    column: u32,
-) -> Result<(), Memory>
-    ensures { OnOk result (steps.new ≡ steps.old ++ named_step named clef line column) }
-{
-    match clef {
-        Some(clef) if named => steps.push(PlacedStep {
-            step: Step::Clef(clef),
-            line,
-            column,
-        }),
-        _ => Ok(()),
-    }
 }

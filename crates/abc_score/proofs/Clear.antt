@@ -14,7 +14,6 @@ use Rattle.abc_steps.specs.Places.{state_at, measure_of}
 use Rattle.abc_steps.specs.Looks.{Steps, since_event}
 use Rattle.abc_steps.specs.Kinds.{is_event}
 use Rattle.abc_steps.specs.Lengths.{written_length}
-use Rattle.abc_steps.specs.declared.step.BodyItem.{BodyItem}
 use Rattle.abc_steps.specs.declared.step.WrittenSound.{WrittenSound}
 use Rattle.abc_steps.specs.declared.step.Step.{Step}
 use Rattle.abc_steps.specs.declared.step.PlacedStep.{PlacedStep}
@@ -104,39 +103,33 @@ own_within v e =
     (walk_within v.first [] v.steps e (omega arith))
 
 -- voices without faults, by themselves and for their verses
-pub record IsClearVoice (unnamed : List ℕ) (items : List BodyItem) (v : ReadVoice) : Type 0 where
+pub record IsClearVoice (v : ReadVoice) : Type 0 where
   pub own : faults_in v.first [] v.steps ≡ []
-  pub verses : verse_fault v.start.id unnamed items ≡ None
+  pub verses : verse_fault v.verses ≡ None
 
-each_clear : (unnamed : List ℕ) (items : List BodyItem) (voices : List ReadVoice)
-    → flat_map (voice_faults unnamed items) voices ≡ []
-    → AllByRecursion (IsClearVoice unnamed items) voices
-each_clear unnamed items [] e = tt
-each_clear unnamed items (v ∷ voices) e =
+each_clear : (voices : List ReadVoice) → flat_map voice_faults voices ≡ [] → AllByRecursion IsClearVoice voices
+each_clear [] e = tt
+each_clear (v ∷ voices) e =
     let here = none_before _ _ e in (
       record { own = none_before _ _ here; verses = ap head_of (none_after _ _ here) },
-      each_clear unnamed items voices (none_after _ _ e),
+      each_clear voices (none_after _ _ e),
     )
 
-pub voices_clear : (unnamed : List ℕ) (items : List BodyItem) (voices : List ReadVoice)
-    → faults_of_voices unnamed items voices ≡ []
-    → AllByRecursion (IsClearVoice unnamed items) voices
-voices_clear unnamed items voices e = each_clear unnamed items voices (none_before _ _ e)
+pub voices_clear : (voices : List ReadVoice) → faults_of_voices voices ≡ [] → AllByRecursion IsClearVoice voices
+voices_clear voices e = each_clear voices (none_before _ _ e)
 
-pub few_measures : (unnamed : List ℕ) (items : List BodyItem) (voices : List ReadVoice)
-    → AllByRecursion (IsClearVoice unnamed items) voices
-    → most_measures voices ≤ measure_limit
-few_measures unnamed items voices clear = most_within voices 0 clear (omega arith) where
+pub few_measures : (voices : List ReadVoice)
+    → AllByRecursion IsClearVoice voices → most_measures voices ≤ measure_limit
+few_measures voices clear = most_within voices 0 clear (omega arith) where
   most_within : (voices : List ReadVoice) (most : ℕ)
-      → AllByRecursion (IsClearVoice unnamed items) voices → most ≤ measure_limit
+      → AllByRecursion IsClearVoice voices → most ≤ measure_limit
       → fold max most (map own_measures voices) ≤ measure_limit
   most_within [] most clear few = few
   most_within (v ∷ voices) most clear few =
       most_within voices (max most (own_measures v)) clear.1
       (let here = own_within v clear.0.own in omega (arith, here, few))
 
-pub clear_verses : (unnamed : List ℕ) (items : List BodyItem) (voices : List ReadVoice)
-    → AllByRecursion (IsClearVoice unnamed items) voices
-    → All (λ v. verse_fault v.start.id unnamed items ≡ None) voices
-clear_verses unnamed items voices clear =
-    All-weaker (IsClearVoice unnamed items) _ (λ v h. h.verses) voices (All-from_recursion _ voices clear)
+pub clear_verses : (voices : List ReadVoice)
+    → AllByRecursion IsClearVoice voices → All (λ v. verse_fault v.verses ≡ None) voices
+clear_verses voices clear =
+    All-weaker IsClearVoice _ (λ v h. h.verses) voices (All-from_recursion _ voices clear)

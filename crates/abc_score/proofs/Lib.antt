@@ -9,6 +9,7 @@ pub mod Idle
 pub mod Ids
 pub mod Judging
 pub mod Lines
+pub mod Moving
 pub mod Nested
 pub mod OneScore
 pub mod Parts

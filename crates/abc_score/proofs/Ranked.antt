@@ -23,8 +23,7 @@ use Rattle.abc_faults.specs.Faults.{grace_faults, sound_faults, faults_of, fault
 use Rattle.abc_faults.specs.First.{kind_rank, is_before, IsLeastFault, IsFirstInOrder}
 use Rattle.abc_faults.specs.Weights.{crowd_fault, crowd_faults_at, crowd_up_to}
 use Rattle.abc_words.specs.declared.verses.Verse.{Verse}
-use Rattle.abc_words.specs.Verses.{faults_from, verses_of_voice, number_on, too_many}
-use Rattle.abc_items.specs.Voices.{unnamed_of}
+use Rattle.abc_words.specs.Verses.{faults_from, number_on, too_many}
 use Rattle.abc_score.specs.declared.voices.ReadVoice.{ReadVoice}
 use Rattle.abc_score.specs.Voices.{voices_read}
 use Rattle.abc_score.specs.Faults.{voice_faults, voice_weights, score_faults}
@@ -120,16 +119,14 @@ verses_ranked before (v ∷ following) =
     both_ranked _ _ (when_ranked (nat_le 8 (number_on v.row before)) (too_many v.line) (omega arith))
     (verses_ranked (before ++ v ∷ []) following)
 
-voice_ranked : (unnamed : List ℕ) (items : List BodyItem) (v : ReadVoice) → AreRanked (voice_faults unnamed items v)
-voice_ranked unnamed items v =
-    both_ranked _ _ (steps_ranked v.first [] v.steps) (verses_ranked [] (verses_of_voice v.start.id unnamed items))
+voice_ranked : (v : ReadVoice) → AreRanked (voice_faults v)
+voice_ranked v = both_ranked _ _ (steps_ranked v.first [] v.steps) (verses_ranked [] v.verses.list)
 
 pub score_ranked : (header : Header) (items : List BodyItem) → AreRanked (score_faults header items)
 score_ranked header items =
-    let unnamed = unnamed_of header in
     let voices = voices_read header items in
     let weights = flat_map voice_weights voices in
-    both_ranked _ _ (each_ranked (voice_faults unnamed items) voices (voice_ranked unnamed items))
+    both_ranked _ _ (each_ranked voice_faults voices voice_ranked)
     (each_ranked (crowd_faults_at weights) weights
     (λ w. when_ranked (nat_lt head_limit (crowd_up_to weights w)) (crowd_fault w) (omega arith)))
 

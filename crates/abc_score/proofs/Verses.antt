@@ -5,34 +5,34 @@ use Rattle.std.proofs.Common.{Some, None, arith}
 use Rattle.{abc_lines.specs.declared.fault.Fault.Fault, abc_steps.specs.declared.step.BodyItem.BodyItem}
 use Rattle.abc_faults.specs.First.{is_before, earlier, first_of}
 use Rattle.abc_score.proofs.Basics.{either}
-use Rattle.abc_score.specs.Order.{DoWordsRiseFrom, DoWordsRise}
-use Rattle.abc_words.specs.Verses.{verse_if, verses_from, number_on, too_many, faults_from, verse_faults}
-use Rattle.abc_words.specs.Verses.{first_verse_fault as head_of}
+use Rattle.abc_score.specs.Order.{DoVersesRise, DoVersesRiseFrom, DoWordsRise, DoWordsRiseFrom}
+use Rattle.abc_words.specs.Verses.{verse_if, verses_from, verses_of_voice, number_on, too_many, faults_from}
+use Rattle.abc_words.specs.Verses.{verse_faults, first_verse_fault as head_of}
+use Rattle.abc_words.specs.declared.verses.Verses.{Verses}
 use Rattle.abc_words.specs.declared.verses.Verse.{Verse}
 
--- verses whose lines increase, from one on
-abbrev pub DoLinesRise : ℕ → List Verse → Type 0
-DoLinesRise low [] = ⊤
-DoLinesRise low (v ∷ vs) = (low ≤ v.line) × DoLinesRise v.line vs
-
-lower : (low high : ℕ) (vs : List Verse) → low ≤ high → DoLinesRise high vs → DoLinesRise low vs
+lower : (low high : ℕ) (vs : List Verse) → low ≤ high → DoVersesRiseFrom high vs → DoVersesRiseFrom low vs
 lower low high [] less rise = tt
 lower low high (v ∷ vs) less rise = let first : high ≤ v.line = rise.0 in (omega arith, rise.1)
 
 with_verse : (current : Bool) (last : Option ℕ) (text : List ℕ) (low line : ℕ) (vs : List Verse)
-    → low ≤ line → DoLinesRise line vs
-    → DoLinesRise low (verse_if current last text line ++ vs)
+    → low ≤ line → DoVersesRiseFrom line vs
+    → DoVersesRiseFrom low (verse_if current last text line ++ vs)
 with_verse true (Some row) text low line vs less rise = (less, rise)
 with_verse true None text low line vs less rise = lower low line vs less rise
 with_verse false last text low line vs less rise = lower low line vs less rise
 
-verses_rise : (id unnamed : List ℕ) (before following : List BodyItem) (low : ℕ) → DoWordsRiseFrom low following
-    → DoLinesRise low (verses_from id unnamed before following)
-verses_rise id unnamed before [] low rise = tt
-verses_rise id unnamed before (BodyItem.Words text line ∷ following) low rise =
+rise_from : (id unnamed : List ℕ) (before following : List BodyItem) (low : ℕ) → DoWordsRiseFrom low following
+    → DoVersesRiseFrom low (verses_from id unnamed before following)
+rise_from id unnamed before [] low rise = tt
+rise_from id unnamed before (BodyItem.Words text line ∷ following) low rise =
     with_verse _ _ text low line _ rise.0
-    (verses_rise id unnamed (BodyItem.Words text line ∷ before) following line rise.1)
-verses_rise id unnamed before (item ∷ following) low rise = verses_rise id unnamed (item ∷ before) following low rise
+    (rise_from id unnamed (BodyItem.Words text line ∷ before) following line rise.1)
+rise_from id unnamed before (item ∷ following) low rise = rise_from id unnamed (item ∷ before) following low rise
+
+pub verses_rise : (id unnamed : List ℕ) (items : List BodyItem)
+    → DoWordsRise items → DoVersesRise (verses_of_voice id unnamed items)
+verses_rise id unnamed items rise = rise_from id unnamed [] items 0 rise
 
 -- faults of verses from a line on: none of them, or the head of the list, comes before one on that line
 abbrev IsFrom : ℕ → Option Fault → Type 0
@@ -54,7 +54,7 @@ higher low high None less from = tt
 higher low high (Some f) less from = let at : high ≤ f.line = from.0 in (omega arith, from.1)
 
 -- the heads and the first faults of what follows
-heads : (low : ℕ) (before following : List Verse) → DoLinesRise low following
+heads : (low : ℕ) (before following : List Verse) → DoVersesRiseFrom low following
     → let faults = faults_from before following in (head_of faults ≡ first_of faults) × IsFrom low (head_of faults)
 heads low before [] rise = (refl, tt)
 heads low before (v ∷ following) rise =
@@ -65,6 +65,5 @@ heads low before (v ∷ following) rise =
     (sym (head_first v.line (first_of more) (subst (IsFrom v.line) others.0 others.1)), (rise.0, refl))
     (others.0, higher low v.line _ rise.0 others.1)
 
-pub verse_first : (id unnamed : List ℕ) (items : List BodyItem) → DoWordsRise items
-    → head_of (verse_faults id unnamed items) ≡ first_of (verse_faults id unnamed items)
-verse_first id unnamed items rise = let both = heads 0 [] _ (verses_rise id unnamed [] items 0 rise) in both.0
+pub verse_first : (v : Verses) → DoVersesRise v → head_of (verse_faults v) ≡ first_of (verse_faults v)
+verse_first v rise = let both = heads 0 [] v.list rise in both.0

@@ -23,10 +23,11 @@ use Rattle.abc_signs.proofs.Drawn.{signs_drawn}
 use Rattle.abc_events.specs.{Bars.{bar_of, bars_of}, Nesting.tree_of, Leaf.Leaf}
 use Rattle.abc_events.specs.Leaves.{Words, leaves_from, leaves_of, words_of_event}
 use Rattle.abc_events.specs.Measures.{leaves_in, measure_of_leaves, measures_in}
-use Rattle.abc_words.{proofs.FaultLaws.few_verses, specs.Rows.row_count}
+use Rattle.abc_words.proofs.FaultLaws.{few_verses}
 use Rattle.abc_words.specs.Words.{event_words, music_rows, verse_sung, word_of}
 use Rattle.abc_words.specs.declared.music.MusicRow.{MusicRow}
-use Rattle.abc_words.specs.Verses.{verse_count, verses_of_voice}
+use Rattle.abc_words.specs.declared.verses.Verses.{Verses}
+use Rattle.abc_words.specs.Verses.{rows_in, verse_count}
 use Rattle.abc_score.proofs.Frames.{length_voice, lengths_agree, voices_apart, voices_led}
 use Rattle.abc_score.proofs.Parts.{signs_count, signs_good, signs_reach, signs_sung}
 use Rattle.abc_score.proofs.Clear.{IsClearVoice, few_measures, voices_clear}
@@ -52,11 +53,11 @@ use Rattle.abc_score.specs.Score.{written_measures}
 -- ---- words
 
 -- each event has an entry for each verse
-each_words : (id unnamed : List ℕ) (items : List BodyItem) (ss : List TreeItem) (j : ℕ) → j < event_count ss
-    → length (words_of_event (sung_words id unnamed items ss) j) ≡ verse_count id unnamed items
+each_words : (v : Verses) (ss : List TreeItem) (j : ℕ) → j < event_count ss
+    → length (words_of_event (sung_words v ss) j) ≡ verse_count v
 unfolding sung_words
-each_words id unnamed items ss j less =
-    let rows = music_rows id unnamed items (sung_notes_from 0 ss) in let verses = verse_count id unnamed items in
+each_words v ss j less =
+    let rows = music_rows v (sung_notes_from 0 ss) in let verses = verse_count v in
     ap length
     (unwrap_or-slice_get _ j []
     ∙ get_or-map-range_with_len (event_words rows verses) 0 (event_count ss) j j [] less (omega arith))
@@ -77,13 +78,12 @@ no_words rows (event ∷ events) (suc k) = no_words rows events k
 no_words rows _ _ = refl
 
 -- without verses it makes no difference whether each event has an empty list of words or none
-pub leaves_unsung : (id unnamed : List ℕ) (items : List BodyItem) (ss : List TreeItem)
-    → verse_count id unnamed items ≡ 0
-    → leaves_of [] ss ≡ leaves_of (sung_words id unnamed items ss) ss
+pub leaves_unsung : (v : Verses) (ss : List TreeItem)
+    → verse_count v ≡ 0 → leaves_of [] ss ≡ leaves_of (sung_words v ss) ss
 unfolding sung_words
-leaves_unsung id unnamed items ss none =
+leaves_unsung v ss none =
     rw none (leaves_alike [] _ 0 0 ss
-    (no_words (music_rows id unnamed items (sung_notes_from 0 ss)) (range_with_len 0 (event_count ss))))
+    (no_words (music_rows v (sung_notes_from 0 ss)) (range_with_len 0 (event_count ss))))
 
 -- ---- a voice
 
@@ -93,15 +93,15 @@ record IsWellRead (v : ReadVoice) : Type 0 where
   pub first : IsGoodForce v.first
   pub steps : AllByRecursion IsGoodPlacedStep v.steps
 
-module _ (header : Header) (items : List BodyItem) (n : ℕ) where
+module _ (header : Header) (n : ℕ) where
   -- what is known of a voice
   record IsKnown (v : ReadVoice) : Type 0 where
     pub read : IsWellRead v
-    pub clear : IsClearVoice (unnamed_of header) items v
+    pub clear : IsClearVoice v
     pub own : own_measures v ≤ n
 
   abbrev words_in : ReadVoice → List Words
-  words_in v = sung_words v.start.id (unnamed_of header) items (signs v.first [] v.steps)
+  words_in v = sung_words v.verses (signs v.first [] v.steps)
 
   abbrev leaves_with : ReadVoice → List Leaf
   leaves_with v = leaves_from (words_in v) 0 0 (signs v.first [] v.steps)
@@ -118,7 +118,7 @@ module _ (header : Header) (items : List BodyItem) (n : ℕ) where
       (signs_weigh v.first [] v.steps is.read.steps)
 
   weight_high : (v : ReadVoice)
-      → IsKnown v → voice_weight (voice_by_header header items n v) ≤ sum_by count (voice_weights v)
+      → IsKnown v → voice_weight (voice_by_header header n v) ≤ sum_by count (voice_weights v)
   unfolding voice_by_header written_measures
   weight_high v is =
       subst (λ k. k ≤ sum_by count (voice_weights v))
@@ -139,22 +139,21 @@ module _ (header : Header) (items : List BodyItem) (n : ℕ) where
 
   voice_good : (v : ReadVoice)
       → HasGoodValues header → n ≤ measure_limit → IsKnown v → sum_by count (voice_weights v) ≤ head_limit
-      → IsGoodVoice (voice_by_header header items n v)
+      → IsGoodVoice (voice_by_header header n v)
   unfolding voice_by_header written_measures
   voice_good v good most is few =
       let ss = signs v.first [] v.steps in
       let words = words_in v in
-      let verses = verse_count v.start.id (unnamed_of header) items in
+      let verses = verse_count v.verses in
       let ls = leaves_with v in let bars = bars_of v.steps n in let events = events_of (measures_in ls bars) in
       let whole = walk_whole v.first [] v.steps is.read.first tt is.read.steps is.clear.own in
       let sings = sym (measures_sing ls bars (rise_in v is) (signs_sung words 0 0 ss whole)) in
       let reach = signs_reach words 0 0 v.first.clef ss whole (voice_reach v.first v.steps is.clear.own) in
       let good_words = signs_good words verses 0 0 ss whole
-      (λ j less. each_words v.start.id (unnamed_of header) items ss j (omega (arith, less))) in
+      (λ j less. each_words v.verses ss j (omega (arith, less))) in
       record {
-        few_measures = subst (λ k. k ≤ measure_limit) (sym (length_voice header items n v)) most;
-        few_verses =
-            few_verses (verses_of_voice v.start.id (unnamed_of header) items) (row_count items) is.clear.verses;
+        few_measures = subst (λ k. k ≤ measure_limit) (sym (length_voice header n v)) most;
+        few_verses = few_verses v.verses.list (rows_in v.verses) is.clear.verses;
         near = omega arith;
         few_heads = le_trans (weight_high v is) few;
         key = good.key;
@@ -172,7 +171,7 @@ module _ (header : Header) (items : List BodyItem) (n : ℕ) where
   -- ---- all voices
   voices_good : (voices : List ReadVoice) → HasGoodValues header → n ≤ measure_limit → AllByRecursion IsKnown voices
       → sum_by count (flat_map voice_weights voices) ≤ head_limit
-      → AllByRecursion IsGoodVoice (map (voice_by_header header items n) voices)
+      → AllByRecursion IsGoodVoice (map (voice_by_header header n) voices)
   voices_good [] good most all few = tt
   voices_good (v ∷ voices) good most all few =
       let both = sum_by-append count (voice_weights v) (flat_map voice_weights voices) in (
@@ -181,16 +180,16 @@ module _ (header : Header) (items : List BodyItem) (n : ℕ) where
       )
 
   voices_weigh : (voices : List ReadVoice) → AllByRecursion IsKnown voices
-      → sum_by voice_weight (map (voice_by_header header items n) voices) ≤ sum_by count (flat_map voice_weights voices)
+      → sum_by voice_weight (map (voice_by_header header n) voices) ≤ sum_by count (flat_map voice_weights voices)
   voices_weigh [] all = omega arith
   voices_weigh (v ∷ voices) all =
       let first =
-      sum_by-cons voice_weight (voice_by_header header items n v) (map (voice_by_header header items n) voices) in
+      sum_by-cons voice_weight (voice_by_header header n v) (map (voice_by_header header n) voices) in
       let both = sum_by-append count (voice_weights v) (flat_map voice_weights voices) in
       omega (arith, first, weight_high v all.0, voices_weigh voices all.1, both)
 
   all_known : (voices : List ReadVoice)
-      → AllByRecursion IsWellRead voices → AllByRecursion (IsClearVoice (unnamed_of header) items) voices
+      → AllByRecursion IsWellRead voices → AllByRecursion IsClearVoice voices
       → AllByRecursion (λ (v : ReadVoice). own_measures v ≤ n) voices → AllByRecursion IsKnown voices
   all_known [] reads clears owns = tt
   all_known (v ∷ voices) reads clears owns =
@@ -215,21 +214,21 @@ pub good_score : (header : Header) (items : List BodyItem) (flow : Bool)
     → score_faults header items ≡ [] → IsGoodScore (score_of header items flow)
 unfolding score_with
 good_score header items flow good given few e =
-    let unnamed = unnamed_of header in let voices = voices_read header items in let n = most_measures voices in
-    let made = map (voice_by_header header items n) voices in
-    let clears = voices_clear unnamed items voices e in let faults = flat_map (voice_faults unnamed items) voices in
+    let voices = voices_read header items in let n = most_measures voices in
+    let made = map (voice_by_header header n) voices in
+    let clears = voices_clear voices e in let faults = flat_map voice_faults voices in
     let light = not_crowded (flat_map voice_weights voices) (none_after faults _ e) in
-    let within = few_measures unnamed items voices clears in let rise = forced_rise flow voices n in
-    let known = all_known header items n voices (all_read header items (starts_of header items) good given) clears
+    let within = few_measures voices clears in let rise = forced_rise flow voices n in
+    let known = all_known header n voices (all_read header items (starts_of header items) good given) clears
     (own_most voices) in
     record {
-      few_voices = omega (arith, length-map voices (voice_by_header header items n), few_read header items few);
+      few_voices = omega (arith, length-map voices (voice_by_header header n), few_read header items few);
       few_measures = within;
-      few_heads = le_trans (voices_weigh header items n voices known) light;
-      voices = All-from_recursion IsGoodVoice made (voices_good header items n voices good within known light);
-      measures = lengths_agree header items n voices;
-      ids = distinct_pairs made (voices_apart header items n voices (apart_read header items good));
+      few_heads = le_trans (voices_weigh header n voices known) light;
+      voices = All-from_recursion IsGoodVoice made (voices_good header n voices good within known light);
+      measures = lengths_agree header n voices;
+      ids = distinct_pairs made (voices_apart header n voices (apart_read header items good));
       forced = all_within_bars n (forced_of flow voices n) rise;
       forced_rise = rising_bars n (forced_of flow voices n) rise;
-      led = voices_led header items n voices;
+      led = voices_led header n voices;
     }

@@ -3,4 +3,5 @@ pub mod Faults
 pub mod Judged
 pub mod Order
 pub mod Score
+pub mod Steps
 pub mod Voices

@@ -9,10 +9,10 @@ use Rattle.mus_score.specs.declared.score.Seat.{Seat}
 use Rattle.abc_fields.specs.declared.header.Header.{Header}
 use Rattle.abc_steps.specs.declared.step.BodyItem.{BodyItem}
 use Rattle.abc_steps.specs.Counts.{measures_begun}
-use Rattle.abc_items.specs.Voices.{unnamed_of}
 use Rattle.abc_signs.specs.{declared.written.WrittenEvent.WrittenEvent, declared.written.TreeItem.TreeItem, Signs.signs}
 use Rattle.abc_events.specs.{Bars.bars_of, Bars.bar_before_events, Bars.forced_bars, Measures.measures_of}
 use Rattle.abc_words.specs.declared.music.SungNote.{SungNote}
+use Rattle.abc_words.specs.declared.verses.Verses.{Verses}
 use Rattle.abc_words.specs.Verses.{verse_count}
 use Rattle.abc_words.specs.Words.{words_of_events}
 use Rattle.abc_score.specs.declared.voices.ReadVoice.{ReadVoice}
@@ -34,16 +34,16 @@ event_count (TreeItem.Event w waiting ∷ signs) = 1 + event_count signs
 event_count (TreeItem.Opens measure p q r ∷ signs) = event_count signs
 
 -- the words of each written event, one entry per verse
-unfoldable pub sung_words : List ℕ → List ℕ → List BodyItem → List TreeItem → List (List (Option (List ℕ)))
-sung_words id unnamed items signs = words_of_events id unnamed items (sung_notes_from 0 signs) (event_count signs)
+unfoldable pub sung_words : Verses → List TreeItem → List (List (Option (List ℕ)))
+sung_words verses signs = words_of_events verses (sung_notes_from 0 signs) (event_count signs)
 
-unfoldable pub written_measures : List ℕ → List BodyItem → ℕ → ReadVoice → List Measure
-written_measures unnamed items n v =
-    let all = signs v.first [] v.steps in measures_of all (sung_words v.start.id unnamed items all) (bars_of v.steps n)
+unfoldable pub written_measures : ℕ → ReadVoice → List Measure
+written_measures n v =
+    let all = signs v.first [] v.steps in measures_of all (sung_words v.verses all) (bars_of v.steps n)
 
 -- a voice with n measures: its own, and empty ones after them
-unfoldable pub voice_by_header : Header → List BodyItem → ℕ → ReadVoice → Voice
-voice_by_header header items n v = record {
+unfoldable pub voice_by_header : Header → ℕ → ReadVoice → Voice
+voice_by_header header n v = record {
   id = v.start.id;
   seat = Seat.Alone;
   gap = usual_gap;
@@ -51,9 +51,9 @@ voice_by_header header items n v = record {
   key = header.key;
   meter = header.meter;
   stem = v.start.stem;
-  verses = verse_count v.start.id (unnamed_of header) items;
+  verses = verse_count v.verses;
   first = bar_before_events v.steps;
-  measures = written_measures (unnamed_of header) items n v;
+  measures = written_measures n v;
 }
 
 -- as many measures as the voice with the most has of its own
@@ -72,13 +72,13 @@ abbrev pub forced_of : Bool → List ReadVoice → ℕ → List ℕ
 forced_of true voices n = []
 forced_of false voices n = forced_in voices n
 
-unfoldable pub score_with : Header → List BodyItem → Bool → List ReadVoice → Score
-score_with header items flow voices = record {
-  voices = map (voice_by_header header items (most_measures voices)) voices;
+unfoldable pub score_with : Header → Bool → List ReadVoice → Score
+score_with header flow voices = record {
+  voices = map (voice_by_header header (most_measures voices)) voices;
   measures = most_measures voices;
   forced = forced_of flow voices (most_measures voices);
   spread = header.spread;
 }
 
 abbrev pub score_of : Header → List BodyItem → Bool → Score
-score_of header items flow = score_with header items flow (voices_read header items)
+score_of header items flow = score_with header flow (voices_read header items)

@@ -6,15 +6,27 @@ use Rattle.abc_steps.specs.declared.force.InForce.{InForce}
 use Rattle.abc_steps.specs.Good.{IsGoodForce, IsGoodPlacedStep}
 use Rattle.abc_items.specs.declared.voices.VoiceStart.{VoiceStart}
 use Rattle.abc_items.specs.Voices.{starts_of, steps_of, unnamed_of}
+use Rattle.abc_words.specs.Verses.{AreOnRows, verses_of_voice}
+use Rattle.abc_score.specs.Order.{DoVersesRise}
 use Rattle.abc_score.specs.declared.voices.ReadVoice.{ReadVoice}
 
 -- a voice begins with its own first clef, and with the key, the meter and the unit length of the header
 abbrev pub first_force : Header → VoiceStart → InForce
 first_force header start = record { clef = start.clef; key = header.key; meter = header.meter; unit = header.unit }
 
+-- a voice without its steps
+abbrev pub voice_before : Header → List BodyItem → VoiceStart → ReadVoice
+voice_before header items start = record {
+  start = start;
+  first = first_force header start;
+  verses = verses_of_voice start.id (unnamed_of header) items;
+  steps = [];
+}
+
+-- with its steps
 abbrev pub voice_read : Header → List BodyItem → VoiceStart → ReadVoice
 voice_read header items start =
-    record { start = start; first = first_force header start; steps = steps_of start.id (unnamed_of header) items }
+    record (voice_before header items start) { steps = steps_of start.id (unnamed_of header) items }
 
 -- in order of first mention
 abbrev pub voices_read : Header → List BodyItem → List ReadVoice
@@ -37,3 +49,5 @@ pub record IsGoodRead (v : ReadVoice) : Type 0 where
   pub few : length v.steps ≤ 2 ^ 30
   pub first : IsGoodForce v.first
   pub steps : All IsGoodPlacedStep v.steps
+  pub on_rows : AreOnRows v.verses
+  pub rise : DoVersesRise v.verses

@@ -16,33 +16,34 @@ use crate::faults::fault_of_score;
 use crate::scores::score_with;
 use crate::voices::read_voices;
 use abc_fields::Header;
-use abc_items::{read_body, unnamed_of};
+use abc_items::read_body;
 use abc_lines::{TuneError, TuneText};
 use abc_steps::BodyItem;
 use mus_score::Score;
+use mus_units::Row;
 use std::alloc::Global;
 
 /// Returns the score of a body that has been read, or its first fault.
 fn score_in(
     alloc: Global,
     header: &Header,
-    items: &[BodyItem],
+    items: Row<BodyItem>,
     flow: bool,
 ) -> Result<Score, TuneError>
     requires header { HasGoodValues header.now }
-    requires items { All IsGoodItem items.now }
-    requires rise { DoWordsRise items.now }
-    requires few { length (voice_ids header.now items.now) ≤ 16 }
-    ensures clear { IfOk result (λ score. IsFirstInOrder (score_faults header.now items.now) None) }
-    ensures score { IfOk result (λ score. score ≡ score_of header.now items.now flow) }
-    ensures fault { IfErr result (λ e. IsErrorIn header.now items.now e) }
+    requires items { All IsGoodItem items }
+    requires rise { DoWordsRise items }
+    requires few { length (voice_ids header.now items) ≤ 16 }
+    ensures clear { IfOk result (λ score. IsFirstInOrder (score_faults header.now items) None) }
+    ensures score { IfOk result (λ score. score ≡ score_of header.now items flow) }
+    ensures fault { IfErr result (λ e. IsErrorIn header.now items e) }
     ensures good { IfOk result IsGoodScore }
 {
     let voices = read_voices(alloc, header, items)?;
-    let judged = fault_of_score(alloc, unnamed_of(header), items, voices)?;
+    let judged = fault_of_score(alloc, voices)?;
     match judged.fault {
         Some(fault) => Err(TuneError::Fault(fault)),
-        None => Ok(score_with(alloc, header, items, flow, judged.voices)?),
+        None => Ok(score_with(alloc, header, flow, judged.voices)?),
     }
 }
 
@@ -81,7 +82,7 @@ fn tune_score(
 {
     let (_, lines) = tune.lines.as_slice().split_at(header.body as usize);
     match read_body(alloc, header, lines) {
-        Ok(items) => score_in(alloc, header, items.as_slice(), flow),
+        Ok(items) => score_in(alloc, header, items, flow),
         Err(e) => Err(e),
     }
 }

@@ -6,6 +6,7 @@ pub mod building;
 pub mod faults;
 pub mod keeping;
 pub mod scores;
+pub mod steps;
 pub mod sung;
 pub mod voices;
 

@@ -1,92 +1,80 @@
 ghost use Rattle.mus_score.specs.Limits.{measure_limit};
-ghost use Rattle.std.specs.{Prelude.ℕ, Prelude.◌≡◌, Prelude.◌≤◌, Prelude.map, Prelude.IfOk, Prelude.None, List.All};
-ghost use Rattle.abc_items.specs.Voices.{unnamed_of};
+ghost use Rattle.std.specs.{Prelude.◌≡◌, Prelude.◌≤◌, Prelude.map, Prelude.IfOk, Prelude.None, List.All};
 ghost use Rattle.abc_words.specs.Verses.{verse_count, verse_fault};
+ghost use Rattle.abc_signs.specs.Signs.{HasDrawableValues};
 ghost use Rattle.abc_events.specs.Bars.{bars_of};
 ghost use Rattle.abc_events.specs.Leaves.{leaves_of};
+ghost use Rattle.abc_events.specs.Measures.{measures_of};
 ghost use Rattle.abc_score.specs.declared.keeping.JudgedVoice.{JudgedVoice};
-ghost use Rattle.abc_score.specs.Judged.{AreItemsOf, HasKept, reads_of};
+ghost use Rattle.abc_score.specs.Judged.{HasKept, reads_of};
 ghost use Rattle.abc_score.specs.Voices.{IsGoodRead};
 ghost use Rattle.abc_score.specs.Score.{forced_of, most_measures, own_measures, score_with, sung_words};
-ghost use Rattle.abc_score.specs.Score.{voice_by_header, written_measures};
+ghost use Rattle.abc_score.specs.Score.{voice_by_header};
 
-use crate::keeping::{JudgedVoice, VoiceItems, signs_of_voice};
+use crate::keeping::{JudgedVoice, signs_of_voice};
 use crate::sung::sung_words;
-use crate::voices::ReadVoice;
 use abc_events::{bars_of, forced_bars, measures_of, own_measures};
 use abc_fields::Header;
-use abc_items::unnamed_of;
 use abc_signs::TreeItem;
-use abc_steps::BodyItem;
-use abc_words::verse_count;
+use abc_words::{Verses, verse_count};
 use mus_score::{Measure, Score, Seat, USUAL_GAP, Voice};
 use mus_units::{Bar, Memory, Row, Text};
 use std::alloc::Global;
 use std::cmp::max;
 
-/// Returns the words of each written event of a voice with these tree items, or no lists if it has no verses.
+/// Returns the words of each written event of a voice with these verses, of which there are `count`, and tree items, or
+/// no lists if it has no verses.
 #[tactic(auto, using(crate::proofs::Wholes::leaves_unsung))]
 fn words_where_sung(
     alloc: Global,
-    unnamed: &[u8],
-    items: &[BodyItem],
-    v: &ReadVoice,
-    verses: usize,
+    verses: Verses,
+    count: usize,
     signs: &[TreeItem],
 ) -> Result<Row<Row<Option<Text>>>, Memory>
-    requires { verses ≡ verse_count v.now.start.id unnamed.now items.now }
-    ensures { IfOk result (λ words.
-        leaves_of words signs.now ≡ leaves_of (sung_words v.now.start.id unnamed.now items.now signs.now) signs.now) }
+    requires { count ≡ verse_count verses }
+    ensures { IfOk result (λ words. leaves_of words signs.now ≡ leaves_of (sung_words verses signs.now) signs.now) }
 {
-    if verses == 0 {
+    if count == 0 {
         return Ok(Row::new(alloc));
     }
-    sung_words(alloc, v.start.id.as_slice(), unnamed, items, signs)
+    sung_words(alloc, verses, signs)
 }
 
-/// Returns the measures of a voice, one for each bar.
-#[tactic(auto, unfolding(crate::specs::Score::written_measures))]
-fn written_measures(
+/// Returns the measures of a voice with these verses, of which there are `count`, and tree items: one for each bar.
+fn measures_with(
     alloc: Global,
-    unnamed: &[u8],
-    items: &[BodyItem],
+    verses: Verses,
+    count: usize,
+    signs: Row<TreeItem>,
     bars: &[Bar],
-    v: &ReadVoice,
-    verses: usize,
-    kept: VoiceItems,
 ) -> Result<Row<Measure>, Memory>
-    requires good { IsGoodRead v.now }
-    requires kept { AreItemsOf v.now kept }
-    requires counted { verses ≡ verse_count v.now.start.id unnamed.now items.now }
-    ensures { IfOk result
-        (λ r. (n : ℕ) → bars.now ≡ bars_of v.now.steps n → r ≡ written_measures unnamed.now items.now n v.now) }
+    requires counted { count ≡ verse_count verses }
+    requires drawn { All HasDrawableValues signs }
+    ensures { IfOk result (λ r. r ≡ measures_of signs (sung_words verses signs) bars.now) }
 {
-    let all = signs_of_voice(alloc, v, kept)?;
-    let words = words_where_sung(alloc, unnamed, items, v, verses, all.as_slice())?;
-    let measures = measures_of(alloc, all, words.as_slice(), bars)?;
+    let words = words_where_sung(alloc, verses, count, signs.as_slice())?;
+    let measures = measures_of(alloc, signs, words.as_slice(), bars)?;
     Ok(measures)
 }
 
 /// Returns a voice with `n` measures.
-#[tactic(auto, unfolding(crate::specs::Score::voice_by_header))]
+#[tactic(auto, unfolding(crate::specs::Score::voice_by_header, crate::specs::Score::written_measures))]
 fn voice_by_header(
     alloc: Global,
     header: &Header,
-    items: &[BodyItem],
     n: u32,
     judged: JudgedVoice,
 ) -> Result<Voice, Memory>
     requires good { IsGoodRead judged.read }
     requires kept { HasKept judged }
-    requires clear { verse_fault judged.read.start.id (unnamed_of header.now) items.now ≡ None }
-    ensures { IfOk result (λ voice. voice ≡ voice_by_header header.now items.now n judged.read) }
+    requires clear { verse_fault judged.read.verses ≡ None }
+    ensures { IfOk result (λ voice. voice ≡ voice_by_header header.now n judged.read) }
 {
     let v = judged.read;
+    let signs = signs_of_voice(alloc, &v, judged.kept)?;
     let own = bars_of(alloc, v.steps.as_slice(), n)?;
-    let bars = own.bars.as_slice();
-    let unnamed = unnamed_of(header);
-    let verses = verse_count(alloc, v.start.id.as_slice(), unnamed, items)?;
-    let measures = written_measures(alloc, unnamed, items, bars, &v, verses, judged.kept)?;
+    let verses = verse_count(alloc, &v.verses)?;
+    let measures = measures_with(alloc, v.verses, verses, signs, own.bars.as_slice())?;
     let key = header.key.copy(alloc)?;
     Ok(Voice {
         id: v.start.id,
@@ -105,19 +93,17 @@ fn voice_by_header(
 fn voices_with(
     alloc: Global,
     header: &Header,
-    items: &[BodyItem],
     n: u32,
     voices: Row<JudgedVoice>,
 ) -> Result<Row<Voice>, Memory>
     requires good { All (λ (j : JudgedVoice). IsGoodRead j.read) voices }
     requires kept { All HasKept voices }
-    requires clear { All (λ (j : JudgedVoice). verse_fault j.read.start.id (unnamed_of header.now) items.now ≡ None)
-        voices }
-    ensures { IfOk result (λ r. r ≡ map (voice_by_header header.now items.now n) (reads_of voices)) }
+    requires clear { All (λ (j : JudgedVoice). verse_fault j.read.verses ≡ None) voices }
+    ensures { IfOk result (λ r. r ≡ map (voice_by_header header.now n) (reads_of voices)) }
 {
     let mut out = Row::new(alloc);
     for judged in voices.items {
-        out.push(voice_by_header(alloc, header, items, n, judged)?)?;
+        out.push(voice_by_header(alloc, header, n, judged)?)?;
     }
     Ok(out)
 }
@@ -168,21 +154,19 @@ fn forced_of(alloc: Global, flow: bool, voices: &[JudgedVoice], n: u32) -> Resul
 pub fn score_with(
     alloc: Global,
     header: &Header,
-    items: &[BodyItem],
     flow: bool,
     voices: Row<JudgedVoice>,
 ) -> Result<Score, Memory>
     requires good { All (λ (j : JudgedVoice). IsGoodRead j.read) voices }
     requires kept { All HasKept voices }
-    requires clear { All (λ (j : JudgedVoice). verse_fault j.read.start.id (unnamed_of header.now) items.now ≡ None)
-        voices }
+    requires clear { All (λ (j : JudgedVoice). verse_fault j.read.verses ≡ None) voices }
     requires few { most_measures (reads_of voices) ≤ measure_limit }
-    ensures { IfOk result (λ score. score ≡ score_with header.now items.now flow (reads_of voices)) }
+    ensures { IfOk result (λ score. score ≡ score_with header.now flow (reads_of voices)) }
 {
     let n = most_measures(voices.as_slice()) as u32;
     let forced = forced_of(alloc, flow, voices.as_slice(), n)?;
     Ok(Score {
-        voices: voices_with(alloc, header, items, n, voices)?,
+        voices: voices_with(alloc, header, n, voices)?,
         measures: n,
         forced,
         spread: header.spread,

@@ -3,8 +3,7 @@ ghost use Rattle.abc_signs.specs.declared.written.TreeItem.{TreeItem};
 ghost use Rattle.abc_score.specs.Score.{event_count, note_if, sung_notes_from, sung_words};
 
 use abc_signs::{TreeItem, WrittenEvent};
-use abc_steps::BodyItem;
-use abc_words::{SungNote, words_of_events};
+use abc_words::{SungNote, Verses, words_of_events};
 use mus_units::{Memory, Row, Text};
 use std::alloc::Global;
 
@@ -64,19 +63,17 @@ fn notes_of(alloc: Global, signs: &[TreeItem]) -> Result<Notes, Memory>
     Ok(at)
 }
 
-/// Returns the words of each written event of a voice with these tree items.
+/// Returns the words of each written event of a voice with these verses and tree items.
 #[tactic(auto, unfolding(crate::specs::Score::sung_words))]
 pub fn sung_words(
     alloc: Global,
-    id: &[u8],
-    unnamed: &[u8],
-    items: &[BodyItem],
+    verses: Verses,
     signs: &[TreeItem],
 ) -> Result<Row<Row<Option<Text>>>, Memory>
-    ensures { IfOk result (λ words. words ≡ sung_words id.now unnamed.now items.now signs.now) }
+    ensures { IfOk result (λ words. words ≡ sung_words verses signs.now) }
 {
     let at = notes_of(alloc, signs)?;
     let notes = at.notes.as_slice();
-    let words = words_of_events(alloc, id, unnamed, items, notes, at.events as usize)?;
+    let words = words_of_events(alloc, verses, notes, at.events as usize)?;
     Ok(words)
 }

@@ -1,7 +1,7 @@
 ghost use Rattle.std.specs.Prelude.{◌≡◌, ◌∷◌, [], true, IfOk};
 
 use crate::step::WrittenSound;
-use mus_units::{Deco, Head, Memory, copy_decos};
+use mus_units::{Deco, Head, Memory};
 use std::alloc::Global;
 use std::marker::Model;
 
@@ -110,33 +110,4 @@ impl StoredSound {
             SoundStore::Other(sound) => sound.den,
         }
     }
-
-    /// Returns a copy of the sound.
-    pub fn copy(&self, alloc: Global) -> Result<StoredSound, Memory>
-        ensures { IfOk result (λ it. it ≡ self.now) }
-    {
-        match &self.held {
-            SoundStore::Rest { seen, num, den } => Ok(StoredSound::rest(*seen, *num, *den)),
-            SoundStore::Note { head, num, den } => Ok(StoredSound {
-                held: SoundStore::Note {
-                    head: *head,
-                    num: *num,
-                    den: *den,
-                },
-            }),
-            SoundStore::Other(sound) => StoredSound::from_sound(alloc, copy_sound(alloc, sound)?),
-        }
-    }
-}
-
-fn copy_sound(alloc: Global, sound: &WrittenSound) -> Result<WrittenSound, Memory>
-    ensures { IfOk result (λ copy. copy ≡ sound.now) }
-{
-    Ok(WrittenSound {
-        heads: sound.heads.copy(alloc)?,
-        seen: sound.seen,
-        decos: copy_decos(alloc, sound.decos.as_slice())?,
-        num: sound.num,
-        den: sound.den,
-    })
 }

@@ -1,9 +1,9 @@
 -- If notes have events of their own, the words of an event are those of its own row.
 use Rattle.std.proofs.Common.{◌≡◌, ℕ, zero, suc, ◌+◌, ◌<◌, ◌≤◌, List, [], ◌∷◌, ◌++◌, Bool, true, false, cond, length}
-use Rattle.std.proofs.Common.{map, get_or, slice_index_or, inl, inr, refl, sym, ap, ◌∙◌, arith, append_assoc}
-use Rattle.std.proofs.Common.{append-nil, reverse, nat_lt, slice_get, length-append}
+use Rattle.std.proofs.Common.{map, get_or, slice_index_or, inl, inr, refl, sym, ap, ◌∙◌, arith}
+use Rattle.std.proofs.Common.{nat_lt, slice_get}
 use Rattle.std.proofs.lemmas.Bool.{cases_lt, eqb-true, ne_eqb}
-use Rattle.std.proofs.lemmas.List.{get_or_default, reverse-append}
+use Rattle.std.proofs.lemmas.List.{get_or_default}
 use Rattle.std.proofs.lemmas.List.Elements.{All-nil, All-cons, All-head, All-tail}
 use Rattle.std.proofs.lemmas.List.FromFn.{get_or-map-range_with_len}
 use Rattle.std.specs.Prelude.{Option, Some, None, filter, ◌==◌, ◌⊎◌}
@@ -15,14 +15,13 @@ use Rattle.mus_lyric.specs.declared.syllable.Syl.{Syl}
 use Rattle.mus_lyric.specs.declared.syllable.Syl.TheVariants.{Print, Skip, Bar}
 use Rattle.mus_lyric.specs.Syllables.{syllables_of}
 use Rattle.mus_lyric.specs.Singing.{first_measure, notes_from, on_first, sung_from, sung_on}
-use Rattle.abc_steps.specs.declared.step.BodyItem.{BodyItem}
-use Rattle.abc_words.specs.Words.{AreOfDistinctEvents, end_if, event_words, music_row, music_rows, sung_note_at}
-use Rattle.abc_words.specs.Words.{notes_on, own_word, row_end, row_ends, row_of, sung_in, sung_with, verse_sung}
+use Rattle.abc_words.specs.Words.{AreOfDistinctEvents, event_words, music_row, music_rows, sung_note_at}
+use Rattle.abc_words.specs.Words.{notes_on, own_word, row_of, sung_in, sung_with, verse_sung}
 use Rattle.abc_words.specs.Words.{word_at, word_of, words_of_events}
 use Rattle.abc_words.specs.declared.music.MusicRow.{MusicRow}
 use Rattle.abc_words.specs.declared.music.SungNote.{SungNote}
-use Rattle.abc_words.specs.Rows.{music_row_at, row_after, row_count}
-use Rattle.abc_words.specs.Verses.{verse_count, verses_of_voice}
+use Rattle.abc_words.specs.declared.verses.Verses.{Verses}
+use Rattle.abc_words.specs.Verses.{rows_in, verse_count}
 use Rattle.abc_words.proofs.Lines.{row_of_within}
 use Rattle.abc_words.proofs.WordLaws.{or_none}
 
@@ -146,38 +145,6 @@ one_sings rows verse event own from (suc n) none le less =
           ∙ (or_none (word_of (sung_in verse (rows from)) event)
           ∙ ap (λ r. word_of (sung_in verse (rows r)) event) here)
 
--- a body has one more row than ends of rows
-row_more : (i : BodyItem) (row : ℕ) → row_after i row ≡ row + length (row_end i)
-row_more (BodyItem.Step s) row = omega arith
-row_more (BodyItem.LineEnd joined breaks line column) row = by_test joined where
-  by_test : (b : Bool) → cond b row (row + 1) ≡ row + length (end_if b line)
-  by_test true = omega arith
-  by_test false = omega arith
-row_more (BodyItem.Voice def line column) row = omega arith
-row_more (BodyItem.Words text line) row = omega arith
-
-rows_after : (items before : List BodyItem)
-    → music_row_at (reverse items ++ before) ≡ music_row_at before + length (row_ends items)
-rows_after [] before = omega arith
-rows_after (i ∷ items) before =
-    let turned : reverse (i ∷ items) ++ before ≡ reverse items ++ (i ∷ before) =
-    ap (λ xs. xs ++ before) (reverse-append (i ∷ []) items) ∙ append_assoc (reverse items) (i ∷ []) before in
-    let rest : music_row_at (reverse items ++ (i ∷ before)) ≡ row_after i (music_row_at before) + length
-    (row_ends items) = rows_after items (i ∷ before) in
-    let here : row_after i (music_row_at before) ≡ music_row_at before + length (row_end i) =
-    row_more i (music_row_at before) in
-    let both : length (row_end i ++ row_ends items) ≡ length (row_end i) + length (row_ends items) =
-    length-append (row_end i) (row_ends items) in
-    ap music_row_at turned ∙ omega arith
-
-row_within : (items : List BodyItem) (line : ℕ) → row_of (row_ends items) line < row_count items
-row_within items line =
-    let whole : music_row_at (reverse items ++ []) ≡ music_row_at [] + length (row_ends items) = rows_after items [] in
-    let same : music_row_at (reverse items ++ []) ≡ music_row_at (reverse items) =
-    ap music_row_at (append-nil (reverse items)) in
-    let most : row_of (row_ends items) line ≤ length (row_ends items) = row_of_within (row_ends items) line in
-    omega arith
-
 -- the entry of an event and a verse
 pub at_place : (rows : List MusicRow) (verses count event verse : ℕ)
     → event < count → verse < verses
@@ -195,40 +162,39 @@ stand_apart ends notes i d apart less k e inside same =
     let at : k ≡ i = apart k i e d inside less same in
     ap (λ (n : SungNote). row_of ends n.line) (ap (λ j. get_or notes j e) at ∙ get_or_default notes i e d less)
 
-pub own_words : (id unnamed : List ℕ) (items : List BodyItem) (notes : List SungNote) (count i verse : ℕ) (d : SungNote)
+pub own_words : (v : Verses) (notes : List SungNote) (count i verse : ℕ) (d : SungNote)
     (words : List (List (Option (List ℕ))))
-    → words ≡ words_of_events id unnamed items notes count → AreOfDistinctEvents notes → i < length notes
+    → words ≡ words_of_events v notes count → AreOfDistinctEvents notes → i < length notes
     → (get_or notes i d).event < count
-    → verse < verse_count id unnamed items
-    → word_at words (get_or notes i d).event verse ≡ own_word id unnamed items notes (get_or notes i d) verse
-own_words id unnamed items notes count i verse d words are apart inside less within =
-    let rows : ℕ → MusicRow = music_row (verses_of_voice id unnamed items) (row_ends items) notes in
-    let own : ℕ = row_of (row_ends items) (get_or notes i d).line in
+    → verse < verse_count v
+    → word_at words (get_or notes i d).event verse ≡ own_word v notes (get_or notes i d) verse
+own_words v notes count i verse d words are apart inside less within =
+    let rows : ℕ → MusicRow = music_row v.list v.ends notes in
+    let own : ℕ = row_of v.ends (get_or notes i d).line in
+    let most = row_of_within v.ends (get_or notes i d).line in
     ap (λ ws. word_at ws (get_or notes i d).event verse) are
-    ∙ (at_place (music_rows id unnamed items notes) (verse_count id unnamed items) count (get_or notes i d).event verse
-    less within
-    ∙ one_sings rows verse (get_or notes i d).event own 0 (row_count items)
+    ∙ (at_place (music_rows v notes) (verse_count v) count (get_or notes i d).event verse less within
+    ∙ one_sings rows verse (get_or notes i d).event own 0 (rows_in v)
     (λ row other.
-    silent (get_or notes i d).event (notes_on row (row_ends items) notes) (slice_get (rows row).texts verse)
-    (free_elsewhere (row_ends items) (get_or notes i d).event own row notes
-    (stand_apart (row_ends items) notes i d apart inside) other))
-    (omega arith) (let inner : own < row_count items = row_within items (get_or notes i d).line in omega arith))
+    silent (get_or notes i d).event (notes_on row v.ends notes) (slice_get (rows row).texts verse)
+    (free_elsewhere v.ends (get_or notes i d).event own row notes (stand_apart v.ends notes i d apart inside) other))
+    (omega arith) (omega (arith, most)))
 
 free_of : (ends : List ℕ) (event row : ℕ) (notes : List SungNote)
     → All (λ n. n.event ≡ event → ⊥) notes → StandOn ends event row notes
 free_of ends event row notes free k d inside same = absurd (free k d inside same)
 
-pub no_words_elsewhere : (id unnamed : List ℕ) (items : List BodyItem) (notes : List SungNote) (count event verse : ℕ)
+pub no_words_elsewhere : (v : Verses) (notes : List SungNote) (count event verse : ℕ)
     (words : List (List (Option (List ℕ))))
-    → words ≡ words_of_events id unnamed items notes count → All (λ n. n.event ≡ event → ⊥) notes → event < count
-    → verse < verse_count id unnamed items
+    → words ≡ words_of_events v notes count → All (λ n. n.event ≡ event → ⊥) notes → event < count
+    → verse < verse_count v
     → word_at words event verse ≡ None
-no_words_elsewhere id unnamed items notes count event verse words are free less within =
-    let rows : ℕ → MusicRow = music_row (verses_of_voice id unnamed items) (row_ends items) notes in
+no_words_elsewhere v notes count event verse words are free less within =
+    let rows : ℕ → MusicRow = music_row v.list v.ends notes in
     ap (λ ws. word_at ws event verse) are
-    ∙ (at_place (music_rows id unnamed items notes) (verse_count id unnamed items) count event verse less within
-    ∙ all_silent rows verse event 0 (row_count items)
+    ∙ (at_place (music_rows v notes) (verse_count v) count event verse less within
+    ∙ all_silent rows verse event 0 (rows_in v)
     (λ row le.
-    silent event (notes_on row (row_ends items) notes) (slice_get (rows row).texts verse)
-    (free_elsewhere (row_ends items) event (row + 1) row notes (free_of (row_ends items) event (row + 1) notes free)
+    silent event (notes_on row v.ends notes) (slice_get (rows row).texts verse)
+    (free_elsewhere v.ends event (row + 1) row notes (free_of v.ends event (row + 1) notes free)
     (λ same. let e : row ≡ row + 1 = same in absurd (omega arith)))))

@@ -1,18 +1,15 @@
--- Verses are on rows of the body, and a row without a fault has at most eight.
-use Rattle.std.proofs.Common.{◌≡◌, ℕ, ◌+◌, ◌<◌, List, [], ◌∷◌, ◌++◌, Bool, true, false, refl, cond, reverse, sym, ap}
-use Rattle.std.proofs.Common.{◌∙◌, subst, arith, append_assoc, append-nil, length, suc}
+-- Verses are on rows of the body.
+use Rattle.std.proofs.Common.{◌≡◌, ℕ, ◌+◌, ◌<◌, List, [], ◌∷◌, ◌++◌, Bool, true, false, refl, cond, reverse, ap}
+use Rattle.std.proofs.Common.{◌∙◌, subst, arith, append_assoc, length, suc}
 use Rattle.std.proofs.lemmas.List.{reverse-append}
 use Rattle.std.proofs.lemmas.List.Elements.{All-nil, All-cons, All-append}
-use Rattle.std.specs.Prelude.{Option, Some, None, ⊤, fold, map, max}
-use Rattle.std.specs.List.{All, list_any, range_with_len}
+use Rattle.std.specs.Prelude.{Option, Some, None, ⊤}
+use Rattle.std.specs.List.{All}
 use Rattle.abc_steps.specs.declared.step.BodyItem.{BodyItem}
 use Rattle.abc_words.specs.declared.rows.RowState.{RowState}
 use Rattle.abc_words.specs.declared.verses.Verse.{Verse}
-use Rattle.abc_words.specs.declared.verses.Verses.{Verses}
-use Rattle.abc_words.specs.Rows.{row_after, music_row_at, row_count, is_line_of, last_row, place_at}
-use Rattle.abc_words.specs.Verses.{is_words_item, verse_if, verse_at, verses_from, verses_of_voice, number_on}
-use Rattle.abc_words.specs.Verses.{most_on, rows_in, verse_count, faults_from, first_verse_fault, verse_fault}
-use Rattle.abc_words.specs.Words.{row_end, row_ends}
+use Rattle.abc_words.specs.Rows.{row_after, row_end, row_ends, music_row_at, is_line_of, last_row, place_at}
+use Rattle.abc_words.specs.Verses.{AreOnRows, verse_if, verse_at, verses_from, verses_of_voice}
 
 abbrev IsWithin : ℕ → Verse → Type 0
 IsWithin n v = v.row < n
@@ -78,42 +75,6 @@ all_within id unnamed before (i ∷ items) n less =
     (verse_within (place_at id unnamed before) i n (last_within id unnamed before n here))
     (all_within id unnamed (i ∷ before) items n more)
 
-pub verses_within : (id unnamed : List ℕ) (items : List BodyItem)
-    → All (λ v. v.row < row_count items) (verses_of_voice id unnamed items)
-verses_within id unnamed items =
-    all_within id unnamed [] items (row_count items)
-    (subst (λ xs. music_row_at xs < row_count items) (sym (append-nil (reverse items))) (omega arith))
-
-pub found_within : (id unnamed : List ℕ) (items : List BodyItem) (verses : List Verse) (rows : ℕ)
-    → verses ≡ verses_of_voice id unnamed items → rows ≡ row_count items → All (λ v. v.row < rows) verses
-found_within id unnamed items verses rows are is =
-    let P : List Verse → Type 0 = λ vs. All (λ v. v.row < rows) vs in
-    let Q : ℕ → Type 0 = λ n. All (λ v. v.row < n) (verses_of_voice id unnamed items) in
-    subst P (sym are) (subst Q (sym is) (verses_within id unnamed items))
-
--- ---- a body without words
-none_along : (id unnamed : List ℕ) (before items : List BodyItem)
-    → list_any is_words_item items ≡ false → verses_from id unnamed before items ≡ []
-none_along id unnamed before [] none = refl
-none_along id unnamed before (BodyItem.Words text line ∷ items) none = absurd cc
-none_along id unnamed before (i ∷ items) none = none_along id unnamed (i ∷ before) items none
-
-none_counted : (rows : List ℕ) → fold max 0 (map (λ row. number_on row []) rows) ≡ 0
-none_counted [] = refl
-none_counted (row ∷ rows) = none_counted rows
-
-pub no_words_no_count : (id unnamed : List ℕ) (items : List BodyItem)
-    → list_any is_words_item items ≡ false → 0 ≡ verse_count id unnamed items
-no_words_no_count id unnamed items none =
-    let rows = range_with_len 0 (row_count items) in
-    sym (ap (λ vs. fold max 0 (map (λ row. number_on row vs) rows)) (none_along id unnamed [] items none)
-    ∙ none_counted rows)
-
-pub no_words_no_fault : (id unnamed : List ℕ) (items : List BodyItem)
-    → list_any is_words_item items ≡ false → None ≡ verse_fault id unnamed items
-no_words_no_fault id unnamed items none =
-    ap (λ vs. first_verse_fault (faults_from [] vs)) (sym (none_along id unnamed [] items none))
-
 -- ---- the rows of a body, from where they end
 ended : (items before : List BodyItem)
     → music_row_at (reverse items ++ before) ≡ length (row_ends items) + music_row_at before
@@ -130,16 +91,7 @@ ended (i ∷ items) before =
       one (BodyItem.Voice def line column) ends row = refl
       one (BodyItem.Words text line) ends row = refl
 
-pub rows_ended : (items : List BodyItem) → length (row_ends items) + 1 ≡ row_count items
-rows_ended items =
-    let none : length (row_ends items) + 0 ≡ length (row_ends items) = omega arith in
-    let rows : music_row_at (reverse items) ≡ length (row_ends items) =
-    ap music_row_at (sym (append-nil (reverse items))) ∙ (ended items [] ∙ none) in
-    ap (λ n. n + 1) (sym rows)
-
-pub counted : (id unnamed : List ℕ) (items : List BodyItem) (v : Verses) (n : ℕ)
-    → n ≡ most_on (rows_in v) v.list → v.list ≡ verses_of_voice id unnamed items → rows_in v ≡ row_count items
-    → n ≡ verse_count id unnamed items
-counted id unnamed items v n most are rows =
-    most
-    ∙ (ap (λ vs. most_on (rows_in v) vs) are ∙ ap (λ k. most_on k (verses_of_voice id unnamed items)) rows)
+pub verses_within : (id unnamed : List ℕ) (items : List BodyItem) → AreOnRows (verses_of_voice id unnamed items)
+verses_within id unnamed items =
+    let rows : music_row_at (reverse items ++ []) ≡ length (row_ends items) + 0 = ended items [] in
+    all_within id unnamed [] items (length (row_ends items) + 1) (omega (arith, rows))

@@ -12,12 +12,10 @@ use Rattle.abc_words.specs.declared.music.MusicRow.{MusicRow}
 use Rattle.abc_words.specs.declared.music.SungNote.{SungNote}
 use Rattle.abc_words.specs.declared.verses.Verse.{Verse}
 use Rattle.abc_words.specs.declared.verses.Verses.{Verses}
-use Rattle.abc_words.specs.Rows.{row_count}
-use Rattle.abc_words.specs.Verses.{rows_in, verses_of_voice}
-use Rattle.abc_words.specs.Words.{event_words, music_row, music_rows, no_music, notes_on, row_ends, sung_in, sung_with}
-use Rattle.abc_words.specs.Words.{rows_with, texts_on, verse_sung, with_notes, row_with_texts, word_of}
+use Rattle.abc_words.specs.Verses.{rows_in}
+use Rattle.abc_words.specs.Words.{event_words, music_row, music_rows, no_music, notes_on, sung_in, sung_with}
+use Rattle.abc_words.specs.Words.{texts_on, verse_sung, with_notes, row_with_texts, word_of}
 use Rattle.abc_words.proofs.Places.{from_places}
-use Rattle.abc_steps.specs.declared.step.BodyItem.{BodyItem}
 
 pub or_none : {X : Type 0} (o : Option X) → option_or o None ≡ o
 or_none None = refl
@@ -76,7 +74,7 @@ pub rows_made : (v : Verses) (notes : List SungNote) (n : ℕ) (start texts all 
     → slice_index_or texts k no_music ≡ row_with_texts (slice_index_or start k no_music) (texts_on k v.list))
     → ((k : ℕ) → k < length texts
     → slice_index_or all k no_music ≡ with_notes (slice_index_or texts k no_music) (notes_on k v.ends notes))
-    → all ≡ rows_with v notes
+    → all ≡ music_rows v notes
 rows_made v notes n start texts all rows long long_texts long_all empty with_them full =
     from_places (music_row v.list v.ends notes) all n no_music (omega arith)
     (λ k less.
@@ -84,15 +82,6 @@ rows_made v notes n start texts all rows long long_texts long_all empty with_the
     (slice_index_or all k no_music)
     (empty k less) (with_them k (omega arith)) (full k (omega arith)))
     ∙ ap (λ m. map (music_row v.list v.ends notes) (range_with_len 0 m)) rows
-
--- the rows of a voice, from its verses
-pub rows_of_voice : (id unnamed : List ℕ) (items : List BodyItem) (notes : List SungNote) (v : Verses)
-    → v.list ≡ verses_of_voice id unnamed items → v.ends ≡ row_ends items → rows_in v ≡ row_count items
-    → rows_with v notes ≡ music_rows id unnamed items notes
-rows_of_voice id unnamed items notes v are ends rows =
-    ap (λ vs. map (music_row vs v.ends notes) (range_with_len 0 (rows_in v))) are
-    ∙ (ap (λ es. map (music_row (verses_of_voice id unnamed items) es notes) (range_with_len 0 (rows_in v))) ends
-    ∙ ap (λ m. map (music_row (verses_of_voice id unnamed items) (row_ends items) notes) (range_with_len 0 m)) rows)
 
 -- a row without a text for a verse
 pub not_sung : (row : MusicRow) (texts : List (List ℕ)) (verse : ℕ) (sung : List Sung)

@@ -1,7 +1,7 @@
 -- The rows of a body, and which of them belong to a voice. Music lines joined by a backslash are one row. Items
 -- before a place are listed from the nearest on.
-use Rattle.std.specs.Prelude.{ℕ, ◌+◌, List, [], ◌∷◌, Bool, false, not, ◌&&◌, ◌||◌, if◌then◌else◌, reverse, Option, Some}
-use Rattle.std.specs.Prelude.{None}
+use Rattle.std.specs.Prelude.{ℕ, ◌+◌, List, [], ◌∷◌, Bool, true, false, not, ◌&&◌, ◌||◌, if◌then◌else◌, flat_map}
+use Rattle.std.specs.Prelude.{Option, Some, None}
 use Rattle.std.specs.Str.{bytes_eq}
 use Rattle.abc_steps.specs.declared.step.BodyItem.{BodyItem}
 use Rattle.abc_items.specs.Voices.{claims, voice_next}
@@ -16,9 +16,17 @@ abbrev pub music_row_at : List BodyItem → ℕ
 music_row_at [] = 0
 music_row_at (i ∷ before) = row_after i (music_row_at before)
 
--- the number of rows of a body, including the one at its end
-abbrev pub row_count : List BodyItem → ℕ
-row_count items = music_row_at (reverse items) + 1
+-- the physical lines at which rows end
+abbrev pub end_if : Bool → ℕ → List ℕ
+end_if true line = []
+end_if false line = line ∷ []
+
+abbrev pub row_end : BodyItem → List ℕ
+row_end (BodyItem.LineEnd joined breaks line column) = end_if joined line
+row_end _ = []
+
+abbrev pub row_ends : List BodyItem → List ℕ
+row_ends items = flat_map row_end items
 
 -- the current voice at a place: that of the last voice field, or `unnamed` before any
 abbrev pub voice_at : List ℕ → List BodyItem → List ℕ

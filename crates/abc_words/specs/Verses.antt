@@ -1,15 +1,15 @@
 -- The verses of a voice: the texts of its `w:` lines, each on the voice's last row so far; the number of verses of
 -- the voice; and which texts are too many.
 use Rattle.std.specs.Prelude.{ℕ, ◌==◌, nat_le, max, List, [], ◌∷◌, ◌++◌, Bool, true, false, if◌then◌else◌, map, fold}
-use Rattle.std.specs.Prelude.{◌+◌, length, count_by, Option, Some, None}
-use Rattle.std.specs.List.{range_with_len}
+use Rattle.std.specs.Prelude.{◌+◌, ◌<◌, length, count_by, Option, Some, None}
+use Rattle.std.specs.List.{All, range_with_len}
 use Rattle.abc_lines.specs.declared.fault.Fault.{Fault}
 use Rattle.abc_lines.specs.declared.fault.FaultKind.{FaultKind}
 use Rattle.abc_steps.specs.declared.step.BodyItem.{BodyItem}
 use Rattle.abc_words.specs.declared.rows.RowState.{RowState}
 use Rattle.abc_words.specs.declared.verses.Verse.{Verse}
 use Rattle.abc_words.specs.declared.verses.Verses.{Verses}
-use Rattle.abc_words.specs.Rows.{place_at, row_count}
+use Rattle.abc_words.specs.Rows.{place_at, row_ends}
 
 -- Words belong to the current voice, on its last row; they are skipped if it has none.
 abbrev pub verse_if : Bool → Option ℕ → List ℕ → ℕ → List Verse
@@ -30,9 +30,13 @@ verses_from id unnamed before [] = []
 verses_from id unnamed before (i ∷ following) =
     verse_at (place_at id unnamed before) i ++ verses_from id unnamed (i ∷ before) following
 
--- the verses of a voice, in the order of the text
-abbrev pub verses_of_voice : List ℕ → List ℕ → List BodyItem → List Verse
-verses_of_voice id unnamed items = verses_from id unnamed [] items
+-- the verses of a voice in the order of the text, and where the rows of the body end
+abbrev pub verses_of_voice : List ℕ → List ℕ → List BodyItem → Verses
+verses_of_voice id unnamed items = record { ends = row_ends items; list = verses_from id unnamed [] items }
+
+-- the number of rows of a body, including the one at its end
+abbrev pub rows_in : Verses → ℕ
+rows_in v = length v.ends + 1
 
 abbrev pub number_on : ℕ → List Verse → ℕ
 number_on row verses = count_by (λ v. v.row == row) verses
@@ -41,12 +45,8 @@ number_on row verses = count_by (λ v. v.row == row) verses
 abbrev pub most_on : ℕ → List Verse → ℕ
 most_on rows verses = fold max 0 (map (λ row. number_on row verses) (range_with_len 0 rows))
 
-abbrev pub verse_count : List ℕ → List ℕ → List BodyItem → ℕ
-verse_count id unnamed items = most_on (row_count items) (verses_of_voice id unnamed items)
-
--- the number of rows of a body, including the one at its end
-abbrev pub rows_in : Verses → ℕ
-rows_in v = length v.ends + 1
+abbrev pub verse_count : Verses → ℕ
+verse_count v = most_on (rows_in v) v.list
 
 -- a verse with eight or more before it on its row is too many
 abbrev pub too_many : ℕ → Fault
@@ -59,13 +59,17 @@ abbrev pub faults_from : List Verse → List Verse → List Fault
 faults_from before [] = []
 faults_from before (v ∷ following) = fault_in before v ++ faults_from (before ++ v ∷ []) following
 
-abbrev pub verse_faults : List ℕ → List ℕ → List BodyItem → List Fault
-verse_faults id unnamed items = faults_from [] (verses_of_voice id unnamed items)
+abbrev pub verse_faults : Verses → List Fault
+verse_faults v = faults_from [] v.list
 
 abbrev pub first_verse_fault : List Fault → Option Fault
 first_verse_fault [] = None
 first_verse_fault (f ∷ fs) = Some f
 
 -- the first fault of a voice's verses
-abbrev pub verse_fault : List ℕ → List ℕ → List BodyItem → Option Fault
-verse_fault id unnamed items = first_verse_fault (verse_faults id unnamed items)
+abbrev pub verse_fault : Verses → Option Fault
+verse_fault v = first_verse_fault (verse_faults v)
+
+-- each verse is on a row of the body
+abbrev pub AreOnRows : Verses → Type 0
+AreOnRows v = All (λ verse. verse.row < rows_in v) v.list

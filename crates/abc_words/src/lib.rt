@@ -8,5 +8,5 @@ pub mod verses;
 pub mod words;
 
 pub use music::SungNote;
-pub use verses::{verse_count, verse_fault};
+pub use verses::{Verses, verse_count, verse_fault, verses_of_voice};
 pub use words::words_of_events;

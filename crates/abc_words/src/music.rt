@@ -1,7 +1,7 @@
 ghost use Rattle.std.specs.Prelude.{◌≡◌, ◌≤◌, ◌<◌, ◌++◌, ◌∷◌, ℕ, [], length, map, slice_index_or, ◌==◌, if◌then◌else◌};
 ghost use Rattle.std.specs.Prelude.{IfOk, OnOk};
 ghost use Rattle.std.specs.List.{range_with_len};
-ghost use Rattle.abc_words.specs.Words.{no_music, sung_note_at, notes_on, rows_with};
+ghost use Rattle.abc_words.specs.Words.{music_rows, no_music, sung_note_at, notes_on};
 ghost use Rattle.abc_words.specs.Words.{row_of, texts_on, with_notes, row_with_texts};
 
 use crate::verses::{Verse, Verses};
@@ -143,7 +143,7 @@ pub(crate) fn music_rows(
     verses: Verses,
     notes: &[SungNote],
 ) -> Result<Vec<MusicRow>, Memory>
-    ensures { IfOk result (λ v. v.items ≡ rows_with verses notes.now) }
+    ensures { IfOk result (λ v. v.items ≡ music_rows verses notes.now) }
 {
     let mut rows = empty_rows(alloc, verses.rows())?;
     put_texts(&mut rows, verses.list)?;

@@ -1,10 +1,9 @@
-ghost use Rattle.std.specs.Prelude.{◌≡◌, ◌≤◌, ◌<◌, ◌+◌, ◌++◌, ◌∷◌, ◌^◌, [], List, ℕ, All, cond, fold, length, max};
+ghost use Rattle.std.specs.Prelude.{◌≡◌, ◌<◌, ◌≤◌, ◌+◌, ◌++◌, ◌^◌, [], ℕ, All, cond, fold, length, max};
 ghost use Rattle.std.specs.Prelude.{slice_index, ◌==◌, map, None, IfOk, OnOk};
-ghost use Rattle.std.specs.List.{list_any, range_with_len};
-ghost use Rattle.abc_words.specs.Rows.{row_count};
-ghost use Rattle.abc_words.specs.Verses.{faults_from, first_verse_fault, is_words_item, number_on, too_many, verse_at};
-ghost use Rattle.abc_words.specs.Verses.{most_on, rows_in, verse_count, verse_fault, verses_of_voice};
-ghost use Rattle.abc_words.specs.Words.{row_end, row_ends};
+ghost use Rattle.std.specs.List.{range_with_len};
+ghost use Rattle.abc_words.specs.Rows.{row_end};
+ghost use Rattle.abc_words.specs.Verses.{AreOnRows, faults_from, first_verse_fault, number_on, rows_in, too_many};
+ghost use Rattle.abc_words.specs.Verses.{verse_at, verse_count, verse_fault, verses_of_voice};
 
 use crate::rows::{RowState, first_place, state_after};
 use abc_lines::{Fault, FaultKind};
@@ -70,30 +69,16 @@ fn put_verse(
     }
 }
 
-fn is_words_item(item: &BodyItem) -> bool
-    ensures { result ≡ is_words_item item.now }
-{
-    matches!(item, BodyItem::Words { .. })
-}
-
-/// Returns whether a body has words.
-fn has_words(items: &[BodyItem]) -> bool
-    ensures { result ≡ list_any is_words_item items.now }
-{
-    items.iter().any(|item| is_words_item(item))
-}
-
-/// Returns the verses of a voice, and where the rows of the body end.
-pub(crate) fn verses_of_voice(
+/// Returns the verses of a voice in the order of the text, and where the rows of the body end. `unnamed` is the voice
+/// of the music before any voice field.
+pub fn verses_of_voice(
     alloc: Global,
     id: &[u8],
     unnamed: &[u8],
     items: &[BodyItem],
 ) -> Result<Verses, Memory>
-    ensures list { IfOk result (λ v. v.list ≡ verses_of_voice id.now unnamed.now items.now) }
-    ensures ends { IfOk result (λ v. v.ends ≡ row_ends items.now) }
-    ensures rows { IfOk result (λ v. rows_in v ≡ row_count items.now) }
-    ensures within { IfOk result (λ v. All (λ verse. verse.row < rows_in v) v.list) }
+    ensures value { IfOk result (λ v. v ≡ verses_of_voice id.now unnamed.now items.now) }
+    ensures within { IfOk result AreOnRows }
 {
     let mut ends = Row::new(alloc);
     let mut list = Row::new(alloc);
@@ -139,32 +124,14 @@ fn greatest(counts: &[usize]) -> usize
     most
 }
 
-/// Returns the greatest number of verses on one row.
-pub(crate) fn most_on(alloc: Global, verses: &Verses) -> Result<usize, Memory>
-    ensures { IfOk result (λ n. n ≡ most_on (rows_in verses.now) verses.now.list) }
+/// Returns the number of verses of a voice: the greatest number of `w:` lines on one of its rows of music. There are at
+/// most eight verses if `verse_fault` finds no fault.
+pub fn verse_count(alloc: Global, verses: &Verses) -> Result<usize, Memory>
+    ensures value { IfOk result (λ n. n ≡ verse_count verses.now) }
+    ensures few { IfOk result (λ n. verse_fault verses.now ≡ None → n ≤ 8) }
 {
     let counts = counts_of(alloc, verses.list.as_slice(), verses.rows())?;
     Ok(greatest(counts.as_slice()))
-}
-
-/// Returns the number of verses of a voice: the greatest number of `w:` lines on one of its rows of music. `unnamed`
-/// is the voice of the music before any voice field. There are at most eight verses if `verse_fault` finds no fault.
-#[tactic(auto, using(crate::proofs::VerseLaws::no_words_no_count))]
-pub fn verse_count(
-    alloc: Global,
-    id: &[u8],
-    unnamed: &[u8],
-    items: &[BodyItem],
-) -> Result<usize, Memory>
-    ensures value { IfOk result (λ n. n ≡ verse_count id.now unnamed.now items.now) }
-    ensures few { IfOk result (λ n. verse_fault id.now unnamed.now items.now ≡ None → n ≤ 8) }
-{
-    if !has_words(items) {
-        return Ok(0);
-    }
-    let found = verses_of_voice(alloc, id, unnamed, items)?;
-    let most = most_on(alloc, &found)?;
-    Ok(most)
 }
 
 /// Returns the number of verses on a row so far.
@@ -200,19 +167,10 @@ fn first_fault(alloc: Global, verses: &[Verse], rows: usize) -> Result<Option<Fa
 }
 
 /// Returns the fault of a voice with more than eight `w:` lines on one row, at column 1 of the first line that is too
-/// many. `unnamed` is the voice of the music before any voice field.
-#[tactic(auto, using(crate::proofs::VerseLaws::no_words_no_fault))]
-pub fn verse_fault(
-    alloc: Global,
-    id: &[u8],
-    unnamed: &[u8],
-    items: &[BodyItem],
-) -> Result<Option<Fault>, Memory>
-    ensures { IfOk result (λ fault. fault ≡ verse_fault id.now unnamed.now items.now) }
+/// many.
+pub fn verse_fault(alloc: Global, verses: &Verses) -> Result<Option<Fault>, Memory>
+    requires { AreOnRows verses.now }
+    ensures { IfOk result (λ fault. fault ≡ verse_fault verses.now) }
 {
-    if !has_words(items) {
-        return Ok(None);
-    }
-    let found = verses_of_voice(alloc, id, unnamed, items)?;
-    first_fault(alloc, found.list.as_slice(), found.rows())
+    first_fault(alloc, verses.list.as_slice(), verses.rows())
 }

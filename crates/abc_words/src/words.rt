@@ -3,12 +3,11 @@ ghost use Rattle.std.specs.Prelude.{slice_index_or, IfOk, OnOk};
 ghost use Rattle.std.specs.List.{range_with_len};
 ghost use Rattle.std.specs.Option.{option_copied, option_flatten, option_or};
 ghost use Rattle.abc_words.specs.Verses.{verse_count};
-ghost use Rattle.abc_words.specs.Words.{HasNoOtherWords, HaveOwnWords, event_words, rows_with, sung_in, verse_sung};
+ghost use Rattle.abc_words.specs.Words.{HasNoOtherWords, HaveOwnWords, event_words, sung_in, verse_sung};
 ghost use Rattle.abc_words.specs.Words.{word_of, words_of_events};
 
 use crate::music::{MusicRow, SungNote, music_rows};
-use crate::verses::{Verses, most_on, verses_of_voice};
-use abc_steps::BodyItem;
+use crate::verses::{Verses, verse_count};
 use mus_lyric::{Sung, align, syllables};
 use mus_units::{Memory, Row, Text};
 use std::alloc::Global;
@@ -88,26 +87,6 @@ fn all_words(
     Ok(all)
 }
 
-/// Returns the words of all verses of a voice, verse by verse. If it has none, its rows are not built.
-fn voice_words(
-    alloc: Global,
-    found: Verses,
-    notes: &[SungNote],
-    verses: usize,
-    count: usize,
-) -> Result<Row<Row<Option<Text>>>, Memory>
-    ensures { IfOk result (λ all.
-        all
-        ≡ map (λ verse. map (word_of (verse_sung (rows_with found notes.now) verse)) (range_with_len 0 count))
-        (range_with_len 0 verses)) }
-{
-    if verses == 0 {
-        return Ok(Row::new(alloc));
-    }
-    let rows = music_rows(alloc, found, notes)?;
-    all_words(alloc, rows.as_slice(), verses, count)
-}
-
 fn copy_word(alloc: Global, word: Option<&Option<Text>>) -> Result<Option<Text>, Memory>
     ensures { IfOk result (λ copy. copy ≡ option_flatten (option_copied word.entry)) }
 {
@@ -132,26 +111,24 @@ fn words_at(
     Ok(words)
 }
 
-/// Returns the words of `count` written events of a voice: a list for each, with an entry for each verse. `notes` are
-/// the notes of the voice in order; on each row of music they take the syllables of the `w:` lines of that row.
-/// `unnamed` is the voice of the music before any voice field.
+/// Returns the words of `count` written events of a voice with these verses: a list for each, with an entry for each
+/// verse. `notes` are the notes of the voice in order; on each row of music they take the syllables of the `w:` lines
+/// of that row.
 pub fn words_of_events(
     alloc: Global,
-    id: &[u8],
-    unnamed: &[u8],
-    items: &[BodyItem],
+    verses: Verses,
     notes: &[SungNote],
     count: usize,
 ) -> Result<Row<Row<Option<Text>>>, Memory>
-    ensures value { IfOk result (λ words. words ≡ words_of_events id.now unnamed.now items.now notes.now count) }
+    ensures value { IfOk result (λ words. words ≡ words_of_events verses notes.now count) }
     ensures len { IfOk result (λ words. length words ≡ count) }
-    ensures own { IfOk result (HaveOwnWords id.now unnamed.now items.now notes.now count) }
-    ensures others { IfOk result (HasNoOtherWords id.now unnamed.now items.now notes.now count) }
-    ensures verses { IfOk result (λ words. All (λ row. length row ≡ verse_count id.now unnamed.now items.now) words) }
+    ensures own { IfOk result (HaveOwnWords verses notes.now count) }
+    ensures others { IfOk result (HasNoOtherWords verses notes.now count) }
+    ensures verses { IfOk result (λ words. All (λ row. length row ≡ verse_count verses) words) }
 {
-    let found = verses_of_voice(alloc, id, unnamed, items)?;
-    let verses = most_on(alloc, &found)?;
-    let all = voice_words(alloc, found, notes, verses, count)?;
+    let number = verse_count(alloc, &verses)?;
+    let rows = music_rows(alloc, verses, notes)?;
+    let all = all_words(alloc, rows.as_slice(), number, count)?;
     let mut words = Row::new(alloc);
     for event in 0..count {
         words.push(words_at(alloc, all.as_slice(), event)?)?;

@@ -35,7 +35,7 @@ unfolding score_with voice_by_header
 written_alone header tune flow score is =
     let voices = voices_read header is.items in
     subst AreAlone (sym is.value)
-    (made_alone (voice_by_header header is.items (most_measures voices)) (λ v. refl) voices)
+    (made_alone (voice_by_header header (most_measures voices)) (λ v. refl) voices)
 
 -- without a plan the score that is drawn is the written one
 drawn_alone : (staves : Option Line) (written drawn : Score)

@@ -10,7 +10,6 @@ use Rattle.abc_lines.specs.declared.book.Line.{Line}
 use Rattle.abc_lines.specs.declared.book.TuneText.{TuneText}
 use Rattle.abc_fields.specs.declared.defaults.Defaults.{Defaults}
 use Rattle.abc_fields.specs.declared.header.Header.{Header}
-use Rattle.abc_steps.specs.declared.step.BodyItem.{BodyItem}
 use Rattle.abc_score.specs.declared.voices.ReadVoice.{ReadVoice}
 use Rattle.abc_score.specs.Build.{IsScoreOf}
 use Rattle.abc_score.specs.Score.{score_with, voice_by_header}
@@ -40,22 +39,20 @@ IsWide v = usual_gap ≤ v.gap
 abbrev AreWide : List Voice → Type 0
 AreWide vs = AllByRecursion IsWide vs
 
-voices_wide : (header : Header) (items : List BodyItem) (n : ℕ) (vs : List ReadVoice)
-    → AreWide (map (voice_by_header header items n) vs)
+voices_wide : (header : Header) (n : ℕ) (vs : List ReadVoice) → AreWide (map (voice_by_header header n) vs)
 unfolding voice_by_header
-voices_wide header items n [] = tt
-voices_wide header items n (v ∷ vs) = (omega arith, voices_wide header items n vs)
+voices_wide header n [] = tt
+voices_wide header n (v ∷ vs) = (omega arith, voices_wide header n vs)
 
-score_wide : (header : Header) (items : List BodyItem) (flow : Bool) (vs : List ReadVoice)
-    → AreWide (score_with header items flow vs).voices
+score_wide : (header : Header) (flow : Bool) (vs : List ReadVoice) → AreWide (score_with header flow vs).voices
 unfolding score_with
-score_wide header items flow vs = voices_wide header items _ vs
+score_wide header flow vs = voices_wide header _ vs
 
 -- as they are written
 written_wide : (header : Header) (tune : TuneText) (flow : Bool) (s : Score)
     → IsScoreOf header tune flow s → AreWide s.voices
 written_wide header tune flow s h = subst (λ (s : Score). AreWide s.voices) (sym h.value)
-    (score_wide header h.items flow (voices_read header h.items))
+    (score_wide header flow (voices_read header h.items))
 
 append_wide : (vs ws : List Voice) → AreWide vs → AreWide ws → AreWide (vs ++ ws)
 append_wide [] ws h k = k

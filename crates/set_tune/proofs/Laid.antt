@@ -18,7 +18,6 @@ use Rattle.abc_field.specs.Fields.{field_of}
 use Rattle.abc_fields.specs.declared.defaults.Defaults.{Defaults}
 use Rattle.abc_fields.specs.declared.header.Header.{Header}
 use Rattle.abc_fields.specs.Headers.{IsHeaderBy, IsHeaderOf, composer_in, fields_of, key_place, put_field, title_in}
-use Rattle.abc_steps.specs.declared.step.BodyItem.{BodyItem}
 use Rattle.abc_score.specs.declared.voices.ReadVoice.{ReadVoice}
 use Rattle.abc_score.specs.Build.{IsScoreOf}
 use Rattle.abc_score.specs.Score.{score_with}
@@ -43,18 +42,18 @@ use Rattle.set_tune.specs.Terms.{Manner}
 use Rattle.set_tune.specs.Setting.{HasScore, IsScoreDrawn, IsLaidOut}
 
 -- ---- voices
-has_voice : (header : Header) (items : List BodyItem) (flow : Bool) (voices : List ReadVoice)
-    → 0 < (score_with header items flow voices).measures → 1 ≤ length (score_with header items flow voices).voices
+has_voice : (header : Header) (flow : Bool) (voices : List ReadVoice)
+    → 0 < (score_with header flow voices).measures → 1 ≤ length (score_with header flow voices).voices
 unfolding score_with
-has_voice header items flow [] h = absurd (omega (arith, h))
-has_voice header items flow (v ∷ vs) h = omega arith
+has_voice header flow [] h = absurd (omega (arith, h))
+has_voice header flow (v ∷ vs) h = omega arith
 
 -- a score with measures has a voice
 pub heard : (header : Header) (tune : TuneText) (flow : Bool) (score : Score)
     → IsScoreOf header tune flow score → 0 < score.measures → 1 ≤ length score.voices
 heard header tune flow score h some =
     subst (λ (s : Score). 1 ≤ length s.voices) (sym h.value)
-    (has_voice header h.items flow (voices_read header h.items) (subst (λ (s : Score). 0 < s.measures) h.value some))
+    (has_voice header flow (voices_read header h.items) (subst (λ (s : Score). 0 < s.measures) h.value some))
 
 abbrev pub drawn_as : Score → Result Score Fault
 drawn_as s = Ok s

@@ -23,7 +23,6 @@ loop-read-init c = rw c.new-judged.ensures (search (rules, none_judged, All-nil)
 
 pub loop-read-preserved : goal.loop-read-preserved
 loop-read-preserved c =
-    let of = voice_faults c.args.unnamed.now c.args.items.now in
     let v = c.in-Some.read in
     let cut = c.in-Some.ensures.steps.0 in
     let old = into_iter_items c.loop-read.read-iterator in let new = into_iter_items c.next.new.self in
@@ -31,7 +30,7 @@ loop-read-preserved c =
     let more : reads_of c.push.new.self ≡ done ++ v ∷ [] =
     ap reads_of c.in_ok-push.ensures.ok ∙ map-append (λ (j : JudgedVoice). j.read) c.loop-read.judged (judged ∷ []) in
     record {
-      judged = judged_of (ap (flat_map of) more ∙ sym (flat_map_more of [] done v))
+      judged = judged_of (ap (flat_map voice_faults) more ∙ sym (flat_map_more voice_faults [] done v))
           (ap (flat_map voice_weights) more ∙ sym (flat_map_more voice_weights [] done v)) c.earlier-fault.ensures.value
           (judged_both c.loop-read.invariant.judged c.in_ok-own.ensures.judged);
       reads = part_more (v ∷ []) new old done _ _ cut more c.loop-read.invariant.reads;

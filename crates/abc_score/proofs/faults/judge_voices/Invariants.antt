@@ -11,8 +11,7 @@ abbrev pub invariant-loop-read : goal.invariant-loop-read
 invariant-loop-read l = record {
   judged :
       let done = reads_of l.judged in
-      AreJudged (flat_map (voice_faults l.unnamed l.items) done) (flat_map voice_weights done) l.fault l.fn.weights
-      l.weights;
+      AreJudged (flat_map voice_faults done) (flat_map voice_weights done) l.fault l.fn.weights l.weights;
   reads : reads_of l.judged ++ into_iter_items l.read-iterator ≡ into_iter_items l.initial.read-iterator;
   kept : All HasKept l.judged;
   good : All IsGoodRead (into_iter_items l.read-iterator);

@@ -1,5 +1,5 @@
 use Rattle.std.proofs.Common.{◌≡◌, ◌++◌, ◌≤◌, [], drop, take, reverse}
-use Rattle.abc_words.specs.{Rows.place_at, Verses.verses_from, Words.row_ends}
+use Rattle.abc_words.specs.{Rows.place_at, Rows.row_ends, Verses.verses_from}
 use Rattle.abc_words.proofs.verses.verses_of_voice.Given as goal
 
 abbrev pub invariant-loop-item : goal.invariant-loop-item

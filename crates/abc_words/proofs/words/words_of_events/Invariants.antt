@@ -4,6 +4,4 @@ use Rattle.abc_words.proofs.words.words_of_events.Given as goal
 
 abbrev pub invariant-loop-event : goal.invariant-loop-event
 invariant-loop-event l =
-    l.words
-    ≡ map (event_words (music_rows l.id l.unnamed l.items l.notes) (verse_count l.id l.unnamed l.items))
-    (range_with_len 0 l.event)
+    l.words ≡ map (event_words (music_rows l.fn.verses l.notes) (verse_count l.fn.verses)) (range_with_len 0 l.event)
